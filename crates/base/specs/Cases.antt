@@ -1,0 +1,20 @@
+-- Going by the cases of a test, and the set of rules that closes the returns of a function that goes by tests.
+-- Assumes nothing.
+use Prim.Native.Nat.{ℕ, _<_, _≤_}
+use mathlib.Core.Path.{_≡_, refl}
+use mathlib.Core.Bool.{Bool, true, false}
+use lib.Dec.{ltb, eqb}
+use borrow.Author.Needs.{needs}
+use borrow.Author.Tests.{le-leb, lt-leb, lt-ltb, le-ltb, eq-eqb, ne-eqb, ltb-true, ltb-false, eqb-true, eqb-false}
+
+pub ruleset cases = (needs, le-leb, lt-leb, lt-ltb, le-ltb, eq-eqb, ne-eqb)
+
+pub byBool {ℓ} : {C : Type ℓ} (b : Bool) → (b ≡ true → C) → (b ≡ false → C) → C
+byBool true f g = f refl
+byBool false f g = g refl
+
+pub byLt {ℓ} : {C : Type ℓ} (a b : ℕ) → (a < b → C) → (b ≤ a → C) → C
+byLt a b f g = byBool (ltb a b) (λ e. f (ltb-true a b e)) (λ e. g (ltb-false a b e))
+
+pub byEq {ℓ} : {C : Type ℓ} (a b : ℕ) → (a ≡ b → C) → ((a ≡ b → ⊥) → C) → C
+byEq a b f g = byBool (eqb a b) (λ e. f (eqb-true a b e)) (λ e. g (eqb-false a b e))

@@ -1,0 +1,1 @@
+// What the proofs of every crate share. No code: the laws are in specs/.

@@ -1,0 +1,5 @@
+pub mod Sizes
+pub mod Forms
+pub mod Putting
+pub mod Laws
+pub mod Outcomes

@@ -1,0 +1,110 @@
+-- A value and its bytes: how the value grows, how large it is, and that each is had back from the other.
+-- Assumes nothing.
+use Prim.Native.Nat.{ℕ, zero, suc, _+_, _-_, _*_, _/_, _%_, _^_, _<_, _≤_}
+use native.Mathlib.Omega.{arith}
+use native.Mathlib.Nat.{pow-zero, pow-suc, pow-succ', one-le-pow, add-mul, mul-assoc, mod-eq-of-lt, div-div-eq-div-mul}
+use native.Mathlib.Numerals.{add-one}
+use mathlib.Core.Path.{_≡_, refl, ap, sym, _∙_}
+use mathlib.Core.List.{List, [], _∷_, _++_}
+use lib.ListN.{length, getD, take, drop}
+use lib.Seq.{getD-take, getD-drop}
+use lib.Arith.{digits-lt, digits-div, mod-mul}
+use Rattle.number.specs.Stored.{Bytes, valueFrom, valueOf, bytesOf}
+
+-- lists of bytes
+cons-byte : (a : ℕ) (l : List ℕ) → a < 256 → Bytes l → (i : ℕ) → getD (a ∷ l) i 0 < 256
+cons-byte a l h by zero = h
+cons-byte a l h by (suc i) = by .byte i
+
+pub bytes-none : Bytes []
+bytes-none = record { byte = λ i. omega arith }
+
+pub bytes-cons : {a : ℕ} {l : List ℕ} → a < 256 → Bytes l → Bytes (a ∷ l)
+bytes-cons {a} {l} h by = record { byte = cons-byte a l h by }
+
+pub bytes-tail : {a : ℕ} {l : List ℕ} → Bytes (a ∷ l) → Bytes l
+bytes-tail by = record { byte = λ i. by .byte (suc i) }
+
+pub bytes-drop : (n : ℕ) {l : List ℕ} → Bytes l → Bytes (drop n l)
+bytes-drop n by = record { byte = λ i. rw getD-drop (by .byte (n + i)) }
+
+pub bytes-take : (n : ℕ) (l : List ℕ) → Bytes l → Bytes (take n l)
+bytes-take zero l by = bytes-none
+bytes-take (suc n) [] by = bytes-none
+bytes-take (suc n) (a ∷ l) by = bytes-cons (by .byte 0) (bytes-take n l (bytes-tail by))
+
+pub bytes-append : (l m : List ℕ) → Bytes l → Bytes m → Bytes (l ++ m)
+bytes-append [] m x y = y
+bytes-append (a ∷ l) m x y = bytes-cons (x .byte 0) (bytes-append l m (bytes-tail x) y)
+
+-- the value modulo 2 ^ 64 takes no more of the bytes before than that
+pub value-wraps : (h k : ℕ) (l : List ℕ) → h % 2 ^ 64 ≡ k % 2 ^ 64 → valueFrom h l % 2 ^ 64 ≡ valueFrom k l % 2 ^ 64
+unfolding valueFrom
+value-wraps h k [] e = e
+value-wraps h k (a ∷ l) e = value-wraps (h * 256 + a) (k * 256 + a) l (omega arith)
+
+-- what n bytes add is below 256 ^ n
+pub record Split (h : ℕ) (l : List ℕ) : Type 0 where
+  pub rest : ℕ
+  pub small : rest < 256 ^ length l
+  pub whole : valueFrom h l ≡ h * 256 ^ length l + rest
+
+pub value-split : (h : ℕ) (l : List ℕ) → Bytes l → Split h l
+unfolding valueFrom
+value-split h [] by = record { rest = 0; small = omega arith; whole = rw (pow-zero 256) (omega arith) }
+value-split h (a ∷ l) by =
+    let s : Split (h * 256 + a) l = value-split (h * 256 + a) l (bytes-tail by) in
+    let p : ℕ = 256 ^ length l in
+    let k : a * p + s .rest < 256 * p = digits-lt (by .byte 0) (s .small) in
+    let e : 256 ^ suc (length l) ≡ p * 256 = pow-suc 256 (length l) in
+    record { rest = a * p + s .rest; small = rw e (omega arith); whole = s .whole ∙ rw e (omega arith) }
+
+pub value-small : (l : List ℕ) → Bytes l → valueOf l < 256 ^ length l
+value-small l by = let s : Split 0 l = value-split 0 l by in rw (s .whole) (omega (arith, s .small))
+
+-- written
+pub length-bytesOf : (n x : ℕ) → length (bytesOf n x) ≡ n
+unfolding bytesOf
+length-bytesOf zero x = refl
+length-bytesOf (suc n) x = ap suc (length-bytesOf n x)
+
+pub bytes-bytesOf : (n x : ℕ) → Bytes (bytesOf n x)
+unfolding bytesOf
+bytes-bytesOf zero x = bytes-none
+bytes-bytesOf (suc n) x = bytes-cons (omega arith) (bytes-bytesOf n x)
+
+-- the bytes of the value of some bytes are those bytes
+pub bytes-value : (h : ℕ) (l : List ℕ) → Bytes l → bytesOf (length l) (valueFrom h l) ≡ l
+unfolding valueFrom bytesOf
+bytes-value h [] by = refl
+bytes-value h (a ∷ l) by =
+    let g : ℕ = h * 256 + a in
+    let s : Split g l = value-split g l (bytes-tail by) in
+    let e : valueFrom g l / 256 ^ length l % 256 ≡ a =
+    ap (λ x. x / 256 ^ length l % 256) (s .whole) ∙ (ap (λ x. x % 256) (digits-div g (s .small)) ∙ omega (arith, by .byte 0)) in
+    ap (λ x. x ∷ bytesOf (length l) (valueFrom g l)) e ∙ ap (λ x. a ∷ x) (bytes-value g l (bytes-tail by))
+
+pub spelled : (l : List ℕ) (n x : ℕ) → Bytes l → length l ≡ n → valueOf l ≡ x → bytesOf n x ≡ l
+spelled l n x by e f = rw (← e, ← f) (bytes-value 0 l by)
+
+-- the value of a number's n lowest bytes is that number, modulo 256 ^ n
+pub value-bytes : (h n x : ℕ) → valueFrom h (bytesOf n x) ≡ h * 256 ^ n + x % 256 ^ n
+unfolding valueFrom bytesOf
+value-bytes h zero x = omega arith
+value-bytes h (suc n) x =
+    let p : ℕ = 256 ^ n in
+    let d : ℕ = x / p % 256 in
+    let e : x % (256 * p) ≡ d * p + x % p = mod-mul x (omega arith) (one-le-pow n 256 (omega arith)) in
+    let f : (h * 256 + d) * p ≡ h * (256 * p) + d * p = add-mul (h * 256) d p ∙ ap (λ y. y + d * p) (mul-assoc h 256 p) in
+    value-bytes (h * 256 + d) n x ∙ rw (pow-succ' 256 n) (omega (arith, e, f))
+
+pub bytes-back : (n x : ℕ) → x < 256 ^ n → valueOf (bytesOf n x) ≡ x
+bytes-back n x h = value-bytes 0 n x ∙ rw (mod-eq-of-lt h) (omega arith)
+
+-- one byte more, before those that are there
+pub one-before : (n x left : ℕ) → left ≡ x / 256 ^ n → (left % 256) ∷ bytesOf n x ≡ bytesOf (n + 1) x
+unfolding bytesOf
+one-before n x left e = rw (add-one, e)
+
+pub next-left : (n x left : ℕ) → left ≡ x / 256 ^ n → left / 256 ≡ x / 256 ^ (n + 1)
+next-left n x left e = rw (e, add-one, pow-suc) (div-div-eq-div-mul x (256 ^ n) 256)

@@ -1,0 +1,66 @@
+// Why an answer is a refusal: document 01's twenty-one reasons, with the place and the tag that go with each.
+ghost use mathlib.Core.Path.{_≡_};
+ghost use Rattle.refusal.specs.Numbers.{number};
+
+pub enum Reason {
+    // of the reader, and of the knowing set
+    SetNotGood,
+    TableTooShort,
+    PacketTooLong,
+    KeyDiffers,
+    OuterLengthWrong,
+    TooManyItems,
+    TagBroken,
+    LengthBroken,
+    FirstNotTimeStamp,
+    LastNotChecksum,
+    ChecksumDiffers,
+    LengthNotAllowed,
+    KnownTagTwice,
+    CodeNotAllowed,
+    VersionMissing,
+    // of the writer
+    RowCountTooLarge,
+    RowBad,
+    OutputTooShort,
+    // of the conversions
+    NoScale,
+    NotANumber,
+    ValueOutOfRange,
+}
+
+// The tag is 0 where there is none.
+pub struct Refusal {
+    pub reason: Reason,
+    pub place: usize,
+    pub tag: u64,
+}
+
+// Document 01's number of a reason.
+pub fn number_of(reason: Reason) -> u64
+    ensures { λ r. ⌜ r ≡ number reason ⌝ }
+{
+    match reason {
+        Reason::SetNotGood => 1,
+        Reason::TableTooShort => 2,
+        Reason::PacketTooLong => 3,
+        Reason::KeyDiffers => 4,
+        Reason::OuterLengthWrong => 5,
+        Reason::TooManyItems => 6,
+        Reason::TagBroken => 7,
+        Reason::LengthBroken => 8,
+        Reason::FirstNotTimeStamp => 9,
+        Reason::LastNotChecksum => 10,
+        Reason::ChecksumDiffers => 11,
+        Reason::LengthNotAllowed => 12,
+        Reason::KnownTagTwice => 13,
+        Reason::CodeNotAllowed => 14,
+        Reason::VersionMissing => 15,
+        Reason::RowCountTooLarge => 16,
+        Reason::RowBad => 17,
+        Reason::OutputTooShort => 18,
+        Reason::NoScale => 19,
+        Reason::NotANumber => 20,
+        Reason::ValueOutOfRange => 21,
+    }
+}
