@@ -1,12 +1,12 @@
 -- What stands at a place of a list, and what is left from there on.
 -- Assumes nothing.
-use Prim.Native.Nat.{ℕ, suc, _+_, _<_, _≤_}
+use Prim.Native.Nat.{ℕ, _+_, _-_, _<_, _≤_}
 use native.Mathlib.Omega.{arith}
 use native.Mathlib.Numerals.{add-one}
-use mathlib.Core.Path.{_≡_, ap, sym, _∙_}
+use mathlib.Core.Path.{_≡_}
 use mathlib.Core.List.{List, [], _∷_, _++_, append-assoc}
-use lib.ListN.{length, getD, take, drop, set, drop-of-length-le}
-use lib.Seq.{drop-cons, take-suc, set-at, length-take-le}
+use lib.ListN.{length, getD, take, drop, set, length-drop, drop-of-length-le}
+use lib.Seq.{take-all, drop-cons, take-suc, set-at, length-take-le}
 
 module _ (l : List ℕ) (at : ℕ) where
   pub cons-at : at < length l → drop at l ≡ getD l at 0 ∷ drop (at + 1) l
@@ -15,6 +15,10 @@ module _ (l : List ℕ) (at : ℕ) where
   -- with the byte as the code has it
   pub byte-at : {b : ℕ} → b ≡ getD l at 0 → at < length l → drop at l ≡ b ∷ drop (at + 1) l
   byte-at e h = rw e (cons-at h)
+
+  -- a part that goes to the end, as code lends it
+  pub to-the-end : take (length l - at) (drop at l) ≡ drop at l
+  to-the-end = take-all (length l - at) (drop at l) (rw length-drop (omega arith))
 
   pub nil-at : length l ≤ at → drop at l ≡ []
   nil-at h = drop-of-length-le l h

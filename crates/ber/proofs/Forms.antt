@@ -1,13 +1,12 @@
 -- The forms of tags and lengths as single numbers, and the cases of `tagBytes` and `lengthBytes`.
 -- Assumes nothing.
-use Prim.Native.Nat.{ℕ, zero, suc, _+_, _*_, _/_, _%_, _^_, _<_, _≤_}
+use Prim.Native.Nat.{ℕ, suc, _+_, _*_, _/_, _%_, _^_, _<_, _≤_}
 use native.Mathlib.Omega.{arith}
 use native.Mathlib.Nat.{mod-eq-of-lt}
-use mathlib.Core.Path.{_≡_, refl, ap, sym, _∙_}
-use mathlib.Core.List.{List, [], _∷_}
-use lib.ListN.{length}
+use mathlib.Core.Path.{_≡_, refl, ap, _∙_}
+use mathlib.Core.List.{[], _∷_}
 use borrow.Author.Tests.{lt-ltb, le-ltb, eq-eqb, ne-eqb}
-use Rattle.number.specs.Stored.{Bytes, valueFrom, valueOf, bytesOf}
+use Rattle.number.specs.Stored.{valueFrom, bytesOf}
 use Rattle.number.proofs.Laws.{bytes-none, bytes-cons, spelled, value-bytes, length-bytesOf, bytes-bytesOf}
 use Rattle.ber.specs.Written.{tagBytes, long, lengthBytes}
 

@@ -1,13 +1,13 @@
 -- A value and its bytes: how the value grows, how large it is, and that each is had back from the other.
 -- Assumes nothing.
-use Prim.Native.Nat.{ℕ, zero, suc, _+_, _-_, _*_, _/_, _%_, _^_, _<_, _≤_}
+use Prim.Native.Nat.{ℕ, zero, suc, _+_, _*_, _/_, _%_, _^_, _<_}
 use native.Mathlib.Omega.{arith}
 use native.Mathlib.Nat.{pow-zero, pow-suc, pow-succ', one-le-pow, add-mul, mul-assoc, mod-eq-of-lt, div-div-eq-div-mul}
 use native.Mathlib.Numerals.{add-one}
-use mathlib.Core.Path.{_≡_, refl, ap, sym, _∙_}
+use mathlib.Core.Path.{_≡_, refl, ap, _∙_}
 use mathlib.Core.List.{List, [], _∷_, _++_}
 use lib.ListN.{length, getD, take, drop}
-use lib.Seq.{getD-take, getD-drop}
+use lib.Seq.{getD-drop}
 use lib.Arith.{digits-lt, digits-div, mod-mul}
 use Rattle.number.specs.Stored.{Bytes, valueFrom, valueOf, bytesOf}
 

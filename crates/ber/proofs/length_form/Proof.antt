@@ -1,50 +1,40 @@
+-- `ber::length_form` meets its contract.
+-- Assumes nothing.
 use borrow.Author.Needs.{needs}
-use mathlib.Core.Path.{sym, _∙_, ap}
+use mathlib.Core.Path.{sym, _∙_}
 use native.Mathlib.Omega.{arith}
 use Rattle.number.specs.Stored.{bytesOf}
 use Rattle.ber.proofs.Forms.{length-one, length-two, length-three, length-four, length-five, length-large, one-code, long-code}
 use Rattle.ber.proofs.length_form.Statement.{statement}
 use Rattle.ber.proofs.length_form.Tie as tie
-use Rattle.ber.proofs.length_form.Reads as reads
-use Rattle.ber.proofs.length_form.Lts as lts
 
--- src/lib.rt:137:9
 returns : tie.Need-returns
 returns c = one-code _ (omega arith) ∙ sym (length-one _ (omega arith))
 
--- src/lib.rt:142:19
 add-t3 : tie.Need-add-t3
 add-t3 c = search needs
 
--- src/lib.rt:140:9
 returns-2 : tie.Need-returns-2
 returns-2 c = long-code 1 _ (omega arith) (omega arith) ∙ sym (length-two _ (omega arith) (omega arith))
 
--- src/lib.rt:148:19
 add-t4 : tie.Need-add-t4
 add-t4 c = search needs
 
--- src/lib.rt:146:9
 returns-3 : tie.Need-returns-3
 returns-3 c = long-code 2 _ (omega arith) (omega arith) ∙ sym (length-three _ (omega arith) (omega arith))
 
--- src/lib.rt:154:19
 add-t5 : tie.Need-add-t5
 add-t5 c = search needs
 
--- src/lib.rt:152:9
 returns-4 : tie.Need-returns-4
 returns-4 c = long-code 3 _ (omega arith) (omega arith) ∙ sym (length-four _ (omega arith) (omega arith))
 
--- src/lib.rt:160:19
 add-t6 : tie.Need-add-t6
 add-t6 c = search needs
 
--- src/lib.rt:158:9
 returns-5 : tie.Need-returns-5
 returns-5 c = long-code 4 _ (omega arith) (omega arith) ∙ sym (length-five _ (omega arith) (omega arith))
 
--- src/lib.rt:133:1
 returns-6 : tie.Need-returns-6
 unfolding bytesOf
 returns-6 c = sym (length-large _ (c .if5 .left))

@@ -1,19 +1,15 @@
+-- `ber::tag_size` meets its contract.
+-- Assumes nothing.
 use borrow.Author.Needs.{needs}
 use mathlib.Core.Path.{sym, _∙_, ap}
-use native.Mathlib.Omega.{arith}
 use lib.ListN.{length}
 use Rattle.number.proofs.Laws.{length-bytesOf}
 use Rattle.ber.proofs.tag_size.Statement.{statement}
 use Rattle.ber.proofs.tag_size.Tie as tie
-use Rattle.ber.proofs.tag_size.Reads as reads
-use Rattle.ber.proofs.tag_size.Lts as lts
-use Rattle.ber.proofs.tag_form.Reads as tag-form-reads
 
--- src/lib.rt:188:5
 tag-form-requires : tie.Need-tag-form-requires
 tag-form-requires c κs = search needs
 
--- src/lib.rt:185:1
 returns : tie.Need-returns
 returns c = sym (length-bytesOf _ _) ∙ ap length (c .tag-form .ensures)
 

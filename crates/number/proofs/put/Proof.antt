@@ -2,7 +2,7 @@
 -- Assumes nothing.
 use mathlib.Core.Path.{_≡_, refl, sym, ap, _∙_}
 use mathlib.Core.List.{[], _++_, append-nil}
-use Prim.Native.Nat.{ℕ, _+_, _*_, _-_, _/_, _%_, _^_, _<_, _≤_}
+use Prim.Native.Nat.{ℕ, _+_, _-_, _/_, _%_, _^_, _≤_}
 use native.Mathlib.Omega.{arith}
 use borrow.Author.Needs.{needs}
 use lib.ListN.{length, take, length-set}
@@ -12,8 +12,6 @@ use Rattle.number.specs.Stored.{bytesOf}
 use Rattle.number.proofs.Laws.{one-before, next-left}
 use Rattle.number.proofs.put.Statement.{statement}
 use Rattle.number.proofs.put.Tie as tie
-use Rattle.number.proofs.put.Reads as reads
-use Rattle.number.proofs.put.Lts as lts
 
 abbrev Inv-loop : tie.InvT-loop
 Inv-loop out₀ x left₀ i₀ out left i =
@@ -23,7 +21,6 @@ Inv-loop out₀ x left₀ i₀ out left i =
 abbrev μ-loop : tie.MeasureT-loop
 μ-loop out₀ x left₀ i₀ out left i = i
 
--- src/lib.rt:34:5
 loop-holds : tie.Need-loop-holds Inv-loop μ-loop
 unfolding bytesOf
 loop-holds c =
@@ -31,23 +28,18 @@ loop-holds c =
     let e : length o - length o ≡ 0 = omega arith in
     (omega arith, rw e (omega arith), sym (rw e (ap (λ l. l ++ []) (take-length o) ∙ append-nil o)), refl)
 
--- src/lib.rt:35:9
 sub-i : tie.Need-sub-i Inv-loop μ-loop
 sub-i c = search needs
 
--- src/lib.rt:36:18
 cast-out : tie.Need-cast-out Inv-loop μ-loop
 cast-out c = search needs
 
--- src/lib.rt:36:9
 slice-write-out : tie.Need-slice-write-out Inv-loop μ-loop
 slice-write-out c = search needs
 
--- src/lib.rt:34:5
 loop-less : tie.Need-loop-less Inv-loop μ-loop
 loop-less c = search needs
 
--- src/lib.rt:34:5
 loop-again : tie.Need-loop-again Inv-loop μ-loop
 loop-again c =
     let l = c .before .loop in
@@ -64,11 +56,9 @@ loop-again c =
       length-set (l .out) i (l .left % 256) ∙ l .inv .3,
     )
 
--- src/lib.rt:29:1
 same-length : tie.Need-same-length Inv-loop μ-loop
 same-length c = search needs
 
--- src/lib.rt:29:1
 returns : tie.Need-returns Inv-loop μ-loop
 returns c =
     let l = c .before .loop in

@@ -1,7 +1,7 @@
 -- `number::value` meets its contract: the value so far, gone on with the bytes that are left, is the value of all, modulo 2 ^ 64.
 -- Assumes nothing.
-use mathlib.Core.Path.{_≡_, refl, sym, ap, _∙_}
-use Prim.Native.Nat.{ℕ, _+_, _*_, _-_, _%_, _^_, _<_, _≤_}
+use mathlib.Core.Path.{_≡_, refl, _∙_}
+use Prim.Native.Nat.{_+_, _*_, _-_, _%_, _^_, _<_, _≤_}
 use native.Mathlib.Omega.{arith}
 use borrow.Author.Needs.{needs}
 use lib.ListN.{length, drop, getD}
@@ -10,9 +10,6 @@ use Rattle.number.specs.Stored.{valueFrom, valueOf}
 use Rattle.number.proofs.Laws.{value-wraps}
 use Rattle.number.proofs.value.Statement.{statement}
 use Rattle.number.proofs.value.Tie as tie
-use Rattle.number.proofs.value.Reads as reads
-use Rattle.number.proofs.value.Lts as lts
-use Rattle.number.proofs.wide.Reads as wide-reads
 
 abbrev Inv-loop : tie.InvT-loop
 Inv-loop s v₀ i₀ v i = (i ≤ length s) × (v < 2 ^ 64) × (valueFrom v (drop i s) % 2 ^ 64 ≡ valueOf s % 2 ^ 64)
