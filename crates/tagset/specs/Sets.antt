@@ -1,6 +1,6 @@
 -- Document 01, The knowing set: "two 64-bit words, tag t being bit t of the pair. The first word is bits 0 to 63."
-use Prim.Native.Nat.{ℕ, _+_, _*_, _/_, _%_, _^_}
-use mathlib.Core.Bool.{Bool, not, _||_}
+use Prim.Native.Nat.{ℕ, zero, suc, _+_, _*_, _/_, _%_, _^_}
+use mathlib.Core.Bool.{Bool, cond, not, _||_}
 use lib.Dec.{eqb}
 use Rattle.base.specs.Every.{allBelow}
 use Rattle.tagset.specs.declared.TagSet.{TagSet}
@@ -15,3 +15,7 @@ holds s t = eqb (pair s / 2 ^ t % 2) 1
 -- every tag that s holds, of holds too; no set holds a tag from 128 on
 unfoldable pub within : TagSet → TagSet → Bool
 within s of = allBelow (λ t. not (holds s t) || holds of t) 128
+
+unfoldable pub countBelow : TagSet → ℕ → ℕ
+countBelow s zero = 0
+countBelow s (suc t) = cond (holds s t) 1 0 + countBelow s t

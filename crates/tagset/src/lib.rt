@@ -1,6 +1,8 @@
-// Sets of tags below 128 as two words, tag t being bit t of the pair: whether a tag is in it, and whether one set is within another.
+// Sets of tags below 128 as two words, tag t being bit t of the pair: whether a tag is in it, how many are below a tag, whether one set is within another.
 ghost use mathlib.Core.Path.{_≡_};
-ghost use Rattle.tagset.specs.Sets.{holds, within};
+ghost use Prim.Native.Nat.{_%_, _^_, _<_, _≤_};
+ghost use lib.Count.{ones as setBits};
+ghost use Rattle.tagset.specs.Sets.{holds, within, countBelow};
 
 // The first word is bits 0 to 63.
 pub struct TagSet {
@@ -19,6 +21,33 @@ pub fn has(s: TagSet, tag: u64) -> bool
         return (s.high >> (tag - 64)) & 1 == 1;
     }
     false
+}
+
+// How many tags below a tag the set holds.
+pub fn count_below(s: TagSet, tag: u64) -> usize
+    ensures { λ r. ⌜ r ≡ countBelow s tag ⌝ }
+{
+    if tag < 64 {
+        return ones_below(s.low, tag);
+    }
+    if tag < 128 {
+        return ones(s.low) + ones_below(s.high, tag - 64);
+    }
+    ones(s.low) + ones(s.high)
+}
+
+// How many bits of a word are set, and how many of those below bit k.
+fn ones(word: u64) -> usize
+    ensures { λ r. ⌜ (r ≡ setBits word) × (r ≤ 64) ⌝ }
+{
+    u64::count_ones(word) as usize
+}
+
+fn ones_below(word: u64, k: u64) -> usize
+    requires { ⌜ k < 64 ⌝ }
+    ensures { λ r. ⌜ (r ≡ setBits (word % 2 ^ k)) × (r ≤ 64) ⌝ }
+{
+    ones(word % (1 << k))
 }
 
 // Whether the second set holds all that the first holds.

@@ -1,0 +1,124 @@
+-- The table's rule, tested once over all tags, and what it says at each: the row of a tag stands after as many rows as there are tags below,
+-- and tells the item that document 01's groups have.
+-- Assumes nothing.
+use Prim.Native.Nat.{ℕ, _^_, _<_, _≤_}
+use native.Mathlib.Omega.{arith}
+use mathlib.Core.Path.{_≡_, refl, sym, _∙_}
+use mathlib.Core.Bool.{Bool, true, false, cond, _&&_}
+use mathlib.Core.List.{List, [], _∷_}
+use lib.Dec.{ltb}
+use lib.IntN.{ℤ, pos, _+ℤ_}
+use lib.Signed.{mag}
+use lib.ListN.{getD}
+use mir.Syntax.{w64}
+use mir.Val.{SFits}
+use borrow.Author.Tests.{ltb-true, ne-eqb}
+use Rattle.base.specs.Cases.{byLt, clash}
+use Rattle.base.specs.Every.{all, allBelow, all-below, both-left, both-right}
+use Rattle.tagset.specs.Sets.{holds, countBelow}
+use Rattle.tagset.proofs.Laws.{Words, holds-none}
+use Rattle.catalogue.specs.Items.{Group, groups, member, itemIn, itemOf}
+use Rattle.catalogue.specs.Rows.{rowsFrom, rows, allTags, itemBy}
+use Rattle.catalogue.specs.declared.Entry.{Entry}
+use Rattle.catalogue.specs.declared.Found.the-variants.{Known, Absent}
+use Rattle.catalogue.proofs.Same.{sameFound, same-found}
+
+-- no tag from 128 on is in any group
+below128 : Group → Bool
+below128 g = all (λ t. ltb t 128) (g .tags)
+
+groups-below : all below128 groups ≡ true
+unfolding groups below128
+groups-below = refl
+
+not-member : (t : ℕ) (ts : List ℕ) → all (λ u. ltb u 128) ts ≡ true → 128 ≤ t → member t ts ≡ false
+unfolding member
+not-member t [] e h = refl
+not-member t (u ∷ ts) e h =
+    let k : u < 128 = ltb-true u 128 (both-left (ltb u 128) _ e) in
+    rw (ne-eqb t u (λ q. omega arith)) (not-member t ts (both-right (ltb u 128) _ e) h)
+
+absent-in : (gs : List Group) (t : ℕ) → all below128 gs ≡ true → 128 ≤ t → itemIn gs t ≡ Absent
+unfolding itemIn below128
+absent-in [] t e h = refl
+absent-in (g ∷ gs) t e h =
+    rw (not-member t (g .tags) (both-left (below128 g) _ e) h) (absent-in gs t (both-right (below128 g) _ e) h)
+
+pub item-beyond : (t : ℕ) → 128 ≤ t → itemOf t ≡ Absent
+unfolding itemOf
+item-beyond t h = absent-in groups t groups-below h
+
+-- the row at a place, as the code reads it
+abbrev pub noEntry : Entry
+noEntry = record { tag = 0; width = 0; signed = false; low = pos 0; high = pos 0 }
+
+abbrev pub rowAt : ℕ → Entry
+rowAt at = getD rows at noEntry
+
+-- a whole number of 64 bits
+unfoldable pub small : ℤ → Bool
+small z = ltb (mag z) (2 ^ 63)
+
+pub small-fits : (z : ℤ) → small z ≡ true → SFits w64 z
+unfolding small
+small-fits z e = record { sfits = ltb-true _ _ e }
+
+-- each tag below 128: in the set exactly where there is an item, whose row stands at its place in the table
+rightRow : Entry → ℕ → Bool
+rightRow e t = small (e .low) && (small (e .high) && (small (e .low +ℤ e .high) && sameFound (Known (itemBy e)) (itemOf t)))
+
+placed : ℕ → Bool
+placed t =
+    cond (holds allTags t)
+    (ltb (countBelow allTags t) 64 && rightRow (rowAt (countBelow allTags t)) t)
+    (sameFound Absent (itemOf t))
+
+all-placed : allBelow placed 128 ≡ true
+unfolding placed rightRow small holds countBelow allTags groups member itemIn itemOf rowsFrom rows
+all-placed = refl
+
+pub all-words : Words allTags
+unfolding allTags groups member itemIn itemOf rowsFrom rows
+all-words = record { low64 = omega arith; high64 = omega arith }
+
+pub record Right (t : ℕ) (e : Entry) : Type 0 where
+  pub low-fits : SFits w64 (e .low)
+  pub high-fits : SFits w64 (e .high)
+  pub sum-fits : SFits w64 (e .low +ℤ e .high)
+  pub item : Known (itemBy e) ≡ itemOf t
+
+right-row : (t : ℕ) (e : Entry) → rightRow e t ≡ true → Right t e
+unfolding rightRow
+right-row t e p =
+    let q = both-right (small (e .low)) _ p in
+    let r = both-right (small (e .high)) _ q in
+    record {
+      low-fits = small-fits _ (both-left (small (e .low)) _ p);
+      high-fits = small-fits _ (both-left (small (e .high)) _ q);
+      sum-fits = small-fits _ (both-left (small (e .low +ℤ e .high)) _ r);
+      item = same-found _ (itemOf t) (both-right (small (e .low +ℤ e .high)) _ r);
+    }
+
+pub record Held (t at : ℕ) : Type 0 where
+  pub inside : at < 64
+  pub right : Right t (rowAt at)
+
+pub item-held : (t : ℕ) → holds allTags t ≡ true → Held t (countBelow allTags t)
+unfolding placed
+item-held t e =
+    byLt t 128
+    (λ h.
+    let at = countBelow allTags t in
+    let p = rw e at (all-below placed 128 all-placed t h) in
+    record {
+      inside = ltb-true at 64 (both-left (ltb at 64) _ p);
+      right = right-row t (rowAt at) (both-right (ltb at 64) _ p);
+    })
+    (λ h. clash (sym e ∙ holds-none allTags all-words t h))
+
+pub item-none : (t : ℕ) → holds allTags t ≡ false → itemOf t ≡ Absent
+unfolding placed
+item-none t e =
+    byLt t 128
+    (λ h. sym (same-found Absent (itemOf t) (rw e at (all-below placed 128 all-placed t h))))
+    (λ h. item-beyond t h)

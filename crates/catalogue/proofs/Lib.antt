@@ -1,0 +1,5 @@
+pub mod Same
+pub mod Laws
+pub mod Signs
+pub mod Columns
+pub mod Outcomes

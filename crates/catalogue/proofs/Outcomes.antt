@@ -1,0 +1,34 @@
+-- Each public function's contract determines its answer.
+-- Assumes nothing.
+use mathlib.Core.Path.{sym, _∙_}
+use Rattle.base.specs.Determined.{Answered}
+use Rattle.catalogue.proofs.all_tags.Kinds as all-tags-kinds
+use Rattle.catalogue.proofs.all_tags.Reads as all-tags-reads
+use Rattle.catalogue.proofs.item_of.Kinds as item-of-kinds
+use Rattle.catalogue.proofs.item_of.Reads as item-of-reads
+use Rattle.catalogue.proofs.shapes.Kinds as shapes-kinds
+use Rattle.catalogue.proofs.shapes.Reads as shapes-reads
+use Rattle.catalogue.proofs.shape_at.Kinds as shape-at-kinds
+use Rattle.catalogue.proofs.shape_at.Reads as shape-at-reads
+use Rattle.catalogue.proofs.allows_length.Kinds as allows-length-kinds
+use Rattle.catalogue.proofs.allows_length.Reads as allows-length-reads
+use Rattle.catalogue.proofs.allows_code.Kinds as allows-code-kinds
+use Rattle.catalogue.proofs.allows_code.Reads as allows-code-reads
+
+pub all-tags-determined : Answered 0 all-tags-kinds.ps all-tags-kinds.r all-tags-reads.Post
+all-tags-determined κs a z z′ e e′ p q = p ∙ sym q
+
+pub item-of-determined : Answered 0 item-of-kinds.ps item-of-kinds.r item-of-reads.Post
+item-of-determined κs a z z′ e e′ p q = p ∙ sym q
+
+pub shapes-determined : Answered 0 shapes-kinds.ps shapes-kinds.r shapes-reads.Post
+shapes-determined κs a z z′ e e′ p q = p ∙ sym q
+
+pub shape-at-determined : Answered 1 shape-at-kinds.ps shape-at-kinds.r shape-at-reads.Post
+shape-at-determined κs a z z′ e e′ p q = p ∙ sym q
+
+pub allows-length-determined : Answered 0 allows-length-kinds.ps allows-length-kinds.r allows-length-reads.Post
+allows-length-determined κs a z z′ e e′ p q = p ∙ sym q
+
+pub allows-code-determined : Answered 0 allows-code-kinds.ps allows-code-kinds.r allows-code-reads.Post
+allows-code-determined κs a z z′ e e′ p q = p ∙ sym q

@@ -1,0 +1,37 @@
+-- Which lengths and which codes an item allows.
+use Prim.Native.Nat.{ℕ}
+use mathlib.Core.Bool.{Bool, true, false, cond, _&&_}
+use lib.Dec.{ltb, eqb}
+use Rattle.catalogue.specs.Items.{itemOf}
+use Rattle.catalogue.specs.declared.Sign.{Sign}
+use Rattle.catalogue.specs.declared.Sign.the-variants.{Unsigned, Signed, Marked}
+use Rattle.catalogue.specs.declared.Found.{Found}
+use Rattle.catalogue.specs.declared.Found.the-variants.{Known}
+use Rattle.catalogue.specs.declared.Shape.{Shape}
+use Rattle.catalogue.specs.declared.Shape.the-variants.{Text, Number}
+
+abbrev pub isMarked : Sign → Bool
+isMarked Unsigned = false
+isMarked Signed = false
+isMarked Marked = true
+
+-- "Text of 1 to 127 bytes, any bytes"; a number has its width
+abbrev pub shapeBy : Found → Shape
+shapeBy (Known i) = cond (eqb (i .width) 0) Text (Number (i .width) (isMarked (i .sign)))
+shapeBy Found.Absent = Shape.Absent
+
+unfoldable pub shapeOf : ℕ → Shape
+shapeOf t = shapeBy (itemOf t)
+
+abbrev pub shapeAllows : Shape → ℕ → Bool
+shapeAllows Text n = ltb 0 n && ltb n 128
+shapeAllows (Number width marked) n = eqb n width
+shapeAllows Shape.Absent n = false
+
+-- whether a tag allows a length
+unfoldable pub lengthAllowed : ℕ → ℕ → Bool
+lengthAllowed t n = shapeAllows (shapeOf t) n
+
+-- whether a tag allows a code: "34 (u8, codes 0 to 2), 63 (u8, codes 0 to 8)"
+unfoldable pub codeAllowed : ℕ → ℕ → Bool
+codeAllowed t code = cond (eqb t 34) (ltb code 3) (cond (eqb t 63) (ltb code 9) true)
