@@ -3,7 +3,7 @@
 use Prim.Native.Nat.{ℕ, _<_, _≤_}
 use mathlib.Core.Path.{_≡_, refl, sym}
 use native.Mathlib.Omega.{arith}
-use mathlib.Core.Bool.{Bool, true, false}
+use mathlib.Core.Bool.{Bool, true, false, not, _||_}
 use lib.Dec.{ltb, eqb}
 use borrow.Author.Needs.{needs}
 use borrow.Author.Tests.{le-leb, lt-leb, lt-ltb, le-ltb, eq-eqb, ne-eqb, ltb-true, ltb-false, eqb-true, eqb-false}
@@ -29,3 +29,12 @@ same-test false false f g = refl
 -- a test that passes and fails
 pub clash {ℓ} : {C : Type ℓ} → true ≡ false → C
 clash e = let z : _≡_ {A = ℕ} 0 1 = cc in absurd (omega arith)
+
+-- the second test passes wherever the first does
+pub unless : (a b : Bool) → not a || b ≡ true → a ≡ true → b ≡ true
+unless true b e f = e
+unless false b e f = clash (sym f)
+
+pub unless-true : (a b : Bool) → (a ≡ true → b ≡ true) → not a || b ≡ true
+unless-true true b f = f refl
+unless-true false b f = refl

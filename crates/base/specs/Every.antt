@@ -16,6 +16,10 @@ pub both-right : (a b : Bool) → a && b ≡ true → b ≡ true
 both-right true b e = e
 both-right false b e = let z : _≡_ {A = ℕ} 0 1 = cc in absurd (omega arith)
 
+pub both-true : (a b : Bool) → a ≡ true → b ≡ true → a && b ≡ true
+both-true true b e f = f
+both-true false b e f = e
+
 -- the test passes at every entry
 abbrev pub all {ℓ} : {A : Type ℓ} → (A → Bool) → List A → Bool
 all f [] = true

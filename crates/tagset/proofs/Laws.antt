@@ -4,12 +4,12 @@ use Prim.Native.Nat.{ℕ, zero, suc, _+_, _-_, _%_, _^_, _<_, _≤_}
 use native.Mathlib.Omega.{arith}
 use native.Mathlib.Nat.{suc-add}
 use mathlib.Core.Path.{_≡_, refl, ap, sym, _∙_}
-use mathlib.Core.Bool.{Bool, cond, true, false, not, _||_}
+use mathlib.Core.Bool.{cond, true, false, not, _||_}
 use lib.Dec.{eqb}
 use lib.Bits.{bitAnd}
 use lib.Count.{ones}
 use borrow.Author.Tests.{eq-eqb, eqb-true}
-use Rattle.base.specs.Cases.{byLt, clash}
+use Rattle.base.specs.Cases.{byLt, clash, unless, unless-true}
 use Rattle.base.specs.Every.{all-below, below-all}
 use Rattle.tagset.specs.Sets.{holds, within, countBelow}
 use Rattle.tagset.specs.declared.TagSet.{TagSet}
@@ -34,14 +34,6 @@ module _ (s : TagSet) (w : Words s) (t : ℕ) where
   holds-none h = ap (λ x. eqb (x % 2) 1) (no-bit (s .high) (s .low) (w .low64) t h (w .high64))
 
 -- inclusion
-unless : (a b : Bool) → not a || b ≡ true → a ≡ true → b ≡ true
-unless true b e f = e
-unless false b e f = clash (sym f)
-
-unless-true : (a b : Bool) → (a ≡ true → b ≡ true) → not a || b ≡ true
-unless-true true b f = f refl
-unless-true false b f = refl
-
 pub record Included (s of : TagSet) : Type 0 where
   pub each : (t : ℕ) → holds s t ≡ true → holds of t ≡ true
 
