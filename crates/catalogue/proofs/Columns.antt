@@ -26,7 +26,7 @@ use Rattle.catalogue.proofs.Laws.{noEntry, rowAt, small, small-fits, it
 -- the rows' bytes, set one after the other
 abbrev pub filled : List ℕ → List Entry → List ℕ
 filled column [] = column
-filled column (e ∷ es) = filled (set column (e .tag) (rowByte e)) es
+filled column (e ∷ es) = filled (set column (e .0) (rowByte e)) es
 
 pub rows-filled : filled (replicate 128 255) rows ≡ shapeColumn
 unfolding groups member itemIn itemOf rowsFrom rows shapeOf columnFrom shapeColumn
@@ -34,7 +34,7 @@ rows-filled = refl
 
 -- what the code asks of each row
 rowFits : Entry → Bool
-rowFits e = ltb (e .tag) 128 && (ltb (e .width) 128 && small (e .low +ℤ e .high))
+rowFits e = ltb (e .0) 128 && (ltb (e .1) 128 && small (e .3 +ℤ e .4))
 
 rows-fit : all rowFits rows ≡ true
 unfolding groups member itemIn itemOf rowsFrom rows rowFits small
@@ -45,23 +45,23 @@ unfolding groups member itemIn itemOf rowsFrom rows
 rows-length = refl
 
 pub record Fitting (e : Entry) : Type 0 where
-  pub tagged : e .tag < 128
-  pub narrow : e .width < 128
-  pub sum-fits : SFits w64 (e .low +ℤ e .high)
+  pub tagged : e .0 < 128
+  pub narrow : e .1 < 128
+  pub sum-fits : SFits w64 (e .3 +ℤ e .4)
 
 pub row-fits : (i : ℕ) → i < 64 → Fitting (rowAt i)
 unfolding rowFits
 row-fits i h =
     let e = rowAt i in
     let p = all-at rowFits rows noEntry rows-fit i (rw rows-length h) in
-    let q = both-right (ltb (e .tag) 128) _ p in
+    let q = both-right (ltb (e .0) 128) _ p in
     record {
-      tagged = ltb-true _ 128 (both-left (ltb (e .tag) 128) _ p);
-      narrow = ltb-true _ 128 (both-left (ltb (e .width) 128) _ q);
-      sum-fits = small-fits _ (both-right (ltb (e .width) 128) _ q);
+      tagged = ltb-true _ 128 (both-left (ltb (e .0) 128) _ p);
+      narrow = ltb-true _ 128 (both-left (ltb (e .1) 128) _ q);
+      sum-fits = small-fits _ (both-right (ltb (e .1) 128) _ q);
     }
 
-pub fill-next : (column : List ℕ) (i : ℕ) → i < 64 → filled column (drop i rows) ≡ filled (set column (rowAt i .tag) (rowByte (rowAt i))) (drop (i + 1) rows)
+pub fill-next : (column : List ℕ) (i : ℕ) → i < 64 → filled column (drop i rows) ≡ filled (set column (rowAt i .0) (rowByte (rowAt i))) (drop (i + 1) rows)
 fill-next column i h = rw (drop-cons rows i noEntry (rw rows-length h), add-one)
 
 pub all-filled : (column : List ℕ) (i : ℕ) → 64 ≤ i → filled column (drop i rows) ≡ column

@@ -50,7 +50,7 @@ item-beyond t h = absent-in groups t groups-below h
 
 -- the row at a place, as the code reads it
 abbrev pub noEntry : Entry
-noEntry = record { tag = 0; width = 0; signed = false; low = pos 0; high = pos 0 }
+noEntry = (0, 0, false, pos 0, pos 0)
 
 abbrev pub rowAt : ℕ → Entry
 rowAt at = getD rows at noEntry
@@ -65,7 +65,7 @@ small-fits z e = record { sfits = ltb-true _ _ e }
 
 -- each tag below 128: in the set exactly where there is an item, whose row stands at its place in the table
 rightRow : Entry → ℕ → Bool
-rightRow e t = small (e .low) && (small (e .high) && (small (e .low +ℤ e .high) && sameFound (Known (itemBy e)) (itemOf t)))
+rightRow e t = small (e .3) && (small (e .4) && (small (e .3 +ℤ e .4) && sameFound (Known (itemBy e)) (itemOf t)))
 
 placed : ℕ → Bool
 placed t =
@@ -82,21 +82,21 @@ unfolding allTags groups member itemIn itemOf rowsFrom rows
 all-words = record { low64 = omega arith; high64 = omega arith }
 
 pub record Right (t : ℕ) (e : Entry) : Type 0 where
-  pub low-fits : SFits w64 (e .low)
-  pub high-fits : SFits w64 (e .high)
-  pub sum-fits : SFits w64 (e .low +ℤ e .high)
+  pub low-fits : SFits w64 (e .3)
+  pub high-fits : SFits w64 (e .4)
+  pub sum-fits : SFits w64 (e .3 +ℤ e .4)
   pub item : Known (itemBy e) ≡ itemOf t
 
 right-row : (t : ℕ) (e : Entry) → rightRow e t ≡ true → Right t e
 unfolding rightRow
 right-row t e p =
-    let q = both-right (small (e .low)) _ p in
-    let r = both-right (small (e .high)) _ q in
+    let q = both-right (small (e .3)) _ p in
+    let r = both-right (small (e .4)) _ q in
     record {
-      low-fits = small-fits _ (both-left (small (e .low)) _ p);
-      high-fits = small-fits _ (both-left (small (e .high)) _ q);
-      sum-fits = small-fits _ (both-left (small (e .low +ℤ e .high)) _ r);
-      item = same-found _ (itemOf t) (both-right (small (e .low +ℤ e .high)) _ r);
+      low-fits = small-fits _ (both-left (small (e .3)) _ p);
+      high-fits = small-fits _ (both-left (small (e .4)) _ q);
+      sum-fits = small-fits _ (both-left (small (e .3 +ℤ e .4)) _ r);
+      item = same-found _ (itemOf t) (both-right (small (e .3 +ℤ e .4)) _ r);
     }
 
 pub record Held (t at : ℕ) : Type 0 where

@@ -36,4 +36,4 @@ shapeIn column t = cond (leb 128 t) Absent (shapeFrom (getD column t 0))
 
 -- the byte of a row of the table
 abbrev pub rowByte : Entry → ℕ
-rowByte e = cond (isMarked (signBy e)) (128 + e .width) (e .width)
+rowByte e = cond (isMarked (signBy e)) (128 + e .1) (e .1)

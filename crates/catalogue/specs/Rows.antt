@@ -20,7 +20,7 @@ isSigned Marked = true
 
 -- an item's row, in front of the rows after it
 abbrev pub onto : Found → List Entry → List Entry
-onto (Known i) es = record { tag = i .tag; width = i .width; signed = isSigned (i .sign); low = i .low; high = i .high } ∷ es
+onto (Known i) es = (i .tag, i .width, isSigned (i .sign), i .low, i .high) ∷ es
 onto Absent es = es
 
 -- of n tags from t on
@@ -34,7 +34,7 @@ rows = rowsFrom 128 0
 -- the tags of all rows: bit t of the pair for each tag t
 abbrev pub bits : List Entry → ℕ
 bits [] = 0
-bits (e ∷ es) = 2 ^ e .tag + bits es
+bits (e ∷ es) = 2 ^ e .0 + bits es
 
 unfoldable pub allTags : TagSet
 allTags = record { low = bits rows % 2 ^ 64; high = bits rows / 2 ^ 64 }
@@ -45,7 +45,7 @@ isZero (pos n) = eqb n 0
 isZero (negsuc n) = false
 
 abbrev pub signBy : Entry → Sign
-signBy e = cond (e .signed) (cond (isZero (e .low +ℤ e .high)) Marked Signed) Unsigned
+signBy e = cond (e .2) (cond (isZero (e .3 +ℤ e .4)) Marked Signed) Unsigned
 
 abbrev pub itemBy : Entry → Item
-itemBy e = record { tag = e .tag; width = e .width; sign = signBy e; low = e .low; high = e .high }
+itemBy e = record { tag = e .0; width = e .1; sign = signBy e; low = e .3; high = e .4 }

@@ -38,465 +38,76 @@ pub enum Shape {
     Absent,
 }
 
-// A row of the table. A signed number from -high to high has a mark; 39 is the one that has none.
-struct Entry {
-    tag: u64,
-    width: usize,
-    signed: bool,
-    low: i64,
-    high: i64,
-}
+// A row of the table: tag, width, whether it is signed, low and high.
+// A signed number from -high to high has a mark; 39 is the one that has none.
+struct Entry(u64, usize, bool, i64, i64);
 
 // House units: 10^-7 degree, mm, mm/s, 0.001 mbar, 0.001 percent, 0.001 degree C.
 const TABLE: [Entry; 64] = [
-    Entry {
-        tag: 1,
-        width: 2,
-        signed: false,
-        low: 0,
-        high: 0,
-    },
-    Entry {
-        tag: 2,
-        width: 8,
-        signed: false,
-        low: 0,
-        high: 0,
-    },
-    Entry {
-        tag: 3,
-        width: 0,
-        signed: false,
-        low: 0,
-        high: 0,
-    },
-    Entry {
-        tag: 4,
-        width: 0,
-        signed: false,
-        low: 0,
-        high: 0,
-    },
-    Entry {
-        tag: 5,
-        width: 2,
-        signed: false,
-        low: 0,
-        high: 3_600_000_000,
-    },
-    Entry {
-        tag: 6,
-        width: 2,
-        signed: true,
-        low: -200_000_000,
-        high: 200_000_000,
-    },
-    Entry {
-        tag: 7,
-        width: 2,
-        signed: true,
-        low: -500_000_000,
-        high: 500_000_000,
-    },
-    Entry {
-        tag: 8,
-        width: 1,
-        signed: false,
-        low: 0,
-        high: 255_000,
-    },
-    Entry {
-        tag: 9,
-        width: 1,
-        signed: false,
-        low: 0,
-        high: 255_000,
-    },
-    Entry {
-        tag: 10,
-        width: 0,
-        signed: false,
-        low: 0,
-        high: 0,
-    },
-    Entry {
-        tag: 11,
-        width: 0,
-        signed: false,
-        low: 0,
-        high: 0,
-    },
-    Entry {
-        tag: 12,
-        width: 0,
-        signed: false,
-        low: 0,
-        high: 0,
-    },
-    Entry {
-        tag: 13,
-        width: 4,
-        signed: true,
-        low: -900_000_000,
-        high: 900_000_000,
-    },
-    Entry {
-        tag: 14,
-        width: 4,
-        signed: true,
-        low: -1_800_000_000,
-        high: 1_800_000_000,
-    },
-    Entry {
-        tag: 15,
-        width: 2,
-        signed: false,
-        low: -900_000,
-        high: 19_000_000,
-    },
-    Entry {
-        tag: 16,
-        width: 2,
-        signed: false,
-        low: 0,
-        high: 1_800_000_000,
-    },
-    Entry {
-        tag: 17,
-        width: 2,
-        signed: false,
-        low: 0,
-        high: 1_800_000_000,
-    },
-    Entry {
-        tag: 18,
-        width: 4,
-        signed: false,
-        low: 0,
-        high: 3_600_000_000,
-    },
-    Entry {
-        tag: 19,
-        width: 4,
-        signed: true,
-        low: -1_800_000_000,
-        high: 1_800_000_000,
-    },
-    Entry {
-        tag: 20,
-        width: 4,
-        signed: false,
-        low: 0,
-        high: 3_600_000_000,
-    },
-    Entry {
-        tag: 21,
-        width: 4,
-        signed: false,
-        low: 0,
-        high: 5_000_000_000,
-    },
-    Entry {
-        tag: 22,
-        width: 2,
-        signed: false,
-        low: 0,
-        high: 10_000_000,
-    },
-    Entry {
-        tag: 23,
-        width: 4,
-        signed: true,
-        low: -900_000_000,
-        high: 900_000_000,
-    },
-    Entry {
-        tag: 24,
-        width: 4,
-        signed: true,
-        low: -1_800_000_000,
-        high: 1_800_000_000,
-    },
-    Entry {
-        tag: 25,
-        width: 2,
-        signed: false,
-        low: -900_000,
-        high: 19_000_000,
-    },
-    Entry {
-        tag: 26,
-        width: 2,
-        signed: true,
-        low: -750_000,
-        high: 750_000,
-    },
-    Entry {
-        tag: 27,
-        width: 2,
-        signed: true,
-        low: -750_000,
-        high: 750_000,
-    },
-    Entry {
-        tag: 28,
-        width: 2,
-        signed: true,
-        low: -750_000,
-        high: 750_000,
-    },
-    Entry {
-        tag: 29,
-        width: 2,
-        signed: true,
-        low: -750_000,
-        high: 750_000,
-    },
-    Entry {
-        tag: 30,
-        width: 2,
-        signed: true,
-        low: -750_000,
-        high: 750_000,
-    },
-    Entry {
-        tag: 31,
-        width: 2,
-        signed: true,
-        low: -750_000,
-        high: 750_000,
-    },
-    Entry {
-        tag: 32,
-        width: 2,
-        signed: true,
-        low: -750_000,
-        high: 750_000,
-    },
-    Entry {
-        tag: 33,
-        width: 2,
-        signed: true,
-        low: -750_000,
-        high: 750_000,
-    },
-    Entry {
-        tag: 34,
-        width: 1,
-        signed: false,
-        low: 0,
-        high: 0,
-    },
-    Entry {
-        tag: 35,
-        width: 2,
-        signed: false,
-        low: 0,
-        high: 3_600_000_000,
-    },
-    Entry {
-        tag: 36,
-        width: 1,
-        signed: false,
-        low: 0,
-        high: 100_000,
-    },
-    Entry {
-        tag: 37,
-        width: 2,
-        signed: false,
-        low: 0,
-        high: 5_000_000,
-    },
-    Entry {
-        tag: 38,
-        width: 2,
-        signed: false,
-        low: -900_000,
-        high: 19_000_000,
-    },
-    Entry {
-        tag: 39,
-        width: 1,
-        signed: true,
-        low: -128_000,
-        high: 127_000,
-    },
-    Entry {
-        tag: 55,
-        width: 1,
-        signed: false,
-        low: 0,
-        high: 100_000,
-    },
-    Entry {
-        tag: 56,
-        width: 1,
-        signed: false,
-        low: 0,
-        high: 255_000,
-    },
-    Entry {
-        tag: 57,
-        width: 4,
-        signed: false,
-        low: 0,
-        high: 5_000_000_000,
-    },
-    Entry {
-        tag: 59,
-        width: 0,
-        signed: false,
-        low: 0,
-        high: 0,
-    },
-    Entry {
-        tag: 63,
-        width: 1,
-        signed: false,
-        low: 0,
-        high: 0,
-    },
-    Entry {
-        tag: 64,
-        width: 2,
-        signed: false,
-        low: 0,
-        high: 3_600_000_000,
-    },
-    Entry {
-        tag: 65,
-        width: 1,
-        signed: false,
-        low: 0,
-        high: 0,
-    },
-    Entry {
-        tag: 67,
-        width: 4,
-        signed: true,
-        low: -900_000_000,
-        high: 900_000_000,
-    },
-    Entry {
-        tag: 68,
-        width: 4,
-        signed: true,
-        low: -1_800_000_000,
-        high: 1_800_000_000,
-    },
-    Entry {
-        tag: 70,
-        width: 0,
-        signed: false,
-        low: 0,
-        high: 0,
-    },
-    Entry {
-        tag: 71,
-        width: 2,
-        signed: false,
-        low: 0,
-        high: 3_600_000_000,
-    },
-    Entry {
-        tag: 75,
-        width: 2,
-        signed: false,
-        low: -900_000,
-        high: 19_000_000,
-    },
-    Entry {
-        tag: 78,
-        width: 2,
-        signed: false,
-        low: -900_000,
-        high: 19_000_000,
-    },
-    Entry {
-        tag: 79,
-        width: 2,
-        signed: true,
-        low: -327_000,
-        high: 327_000,
-    },
-    Entry {
-        tag: 80,
-        width: 2,
-        signed: true,
-        low: -327_000,
-        high: 327_000,
-    },
-    Entry {
-        tag: 82,
-        width: 4,
-        signed: true,
-        low: -900_000_000,
-        high: 900_000_000,
-    },
-    Entry {
-        tag: 83,
-        width: 4,
-        signed: true,
-        low: -1_800_000_000,
-        high: 1_800_000_000,
-    },
-    Entry {
-        tag: 84,
-        width: 4,
-        signed: true,
-        low: -900_000_000,
-        high: 900_000_000,
-    },
-    Entry {
-        tag: 85,
-        width: 4,
-        signed: true,
-        low: -1_800_000_000,
-        high: 1_800_000_000,
-    },
-    Entry {
-        tag: 86,
-        width: 4,
-        signed: true,
-        low: -900_000_000,
-        high: 900_000_000,
-    },
-    Entry {
-        tag: 87,
-        width: 4,
-        signed: true,
-        low: -1_800_000_000,
-        high: 1_800_000_000,
-    },
-    Entry {
-        tag: 88,
-        width: 4,
-        signed: true,
-        low: -900_000_000,
-        high: 900_000_000,
-    },
-    Entry {
-        tag: 89,
-        width: 4,
-        signed: true,
-        low: -1_800_000_000,
-        high: 1_800_000_000,
-    },
-    Entry {
-        tag: 90,
-        width: 4,
-        signed: true,
-        low: -900_000_000,
-        high: 900_000_000,
-    },
-    Entry {
-        tag: 91,
-        width: 4,
-        signed: true,
-        low: -900_000_000,
-        high: 900_000_000,
-    },
+    Entry(1, 2, false, 0, 0),
+    Entry(2, 8, false, 0, 0),
+    Entry(3, 0, false, 0, 0),
+    Entry(4, 0, false, 0, 0),
+    Entry(5, 2, false, 0, 3_600_000_000),
+    Entry(6, 2, true, -200_000_000, 200_000_000),
+    Entry(7, 2, true, -500_000_000, 500_000_000),
+    Entry(8, 1, false, 0, 255_000),
+    Entry(9, 1, false, 0, 255_000),
+    Entry(10, 0, false, 0, 0),
+    Entry(11, 0, false, 0, 0),
+    Entry(12, 0, false, 0, 0),
+    Entry(13, 4, true, -900_000_000, 900_000_000),
+    Entry(14, 4, true, -1_800_000_000, 1_800_000_000),
+    Entry(15, 2, false, -900_000, 19_000_000),
+    Entry(16, 2, false, 0, 1_800_000_000),
+    Entry(17, 2, false, 0, 1_800_000_000),
+    Entry(18, 4, false, 0, 3_600_000_000),
+    Entry(19, 4, true, -1_800_000_000, 1_800_000_000),
+    Entry(20, 4, false, 0, 3_600_000_000),
+    Entry(21, 4, false, 0, 5_000_000_000),
+    Entry(22, 2, false, 0, 10_000_000),
+    Entry(23, 4, true, -900_000_000, 900_000_000),
+    Entry(24, 4, true, -1_800_000_000, 1_800_000_000),
+    Entry(25, 2, false, -900_000, 19_000_000),
+    Entry(26, 2, true, -750_000, 750_000),
+    Entry(27, 2, true, -750_000, 750_000),
+    Entry(28, 2, true, -750_000, 750_000),
+    Entry(29, 2, true, -750_000, 750_000),
+    Entry(30, 2, true, -750_000, 750_000),
+    Entry(31, 2, true, -750_000, 750_000),
+    Entry(32, 2, true, -750_000, 750_000),
+    Entry(33, 2, true, -750_000, 750_000),
+    Entry(34, 1, false, 0, 0),
+    Entry(35, 2, false, 0, 3_600_000_000),
+    Entry(36, 1, false, 0, 100_000),
+    Entry(37, 2, false, 0, 5_000_000),
+    Entry(38, 2, false, -900_000, 19_000_000),
+    Entry(39, 1, true, -128_000, 127_000),
+    Entry(55, 1, false, 0, 100_000),
+    Entry(56, 1, false, 0, 255_000),
+    Entry(57, 4, false, 0, 5_000_000_000),
+    Entry(59, 0, false, 0, 0),
+    Entry(63, 1, false, 0, 0),
+    Entry(64, 2, false, 0, 3_600_000_000),
+    Entry(65, 1, false, 0, 0),
+    Entry(67, 4, true, -900_000_000, 900_000_000),
+    Entry(68, 4, true, -1_800_000_000, 1_800_000_000),
+    Entry(70, 0, false, 0, 0),
+    Entry(71, 2, false, 0, 3_600_000_000),
+    Entry(75, 2, false, -900_000, 19_000_000),
+    Entry(78, 2, false, -900_000, 19_000_000),
+    Entry(79, 2, true, -327_000, 327_000),
+    Entry(80, 2, true, -327_000, 327_000),
+    Entry(82, 4, true, -900_000_000, 900_000_000),
+    Entry(83, 4, true, -1_800_000_000, 1_800_000_000),
+    Entry(84, 4, true, -900_000_000, 900_000_000),
+    Entry(85, 4, true, -1_800_000_000, 1_800_000_000),
+    Entry(86, 4, true, -900_000_000, 900_000_000),
+    Entry(87, 4, true, -1_800_000_000, 1_800_000_000),
+    Entry(88, 4, true, -900_000_000, 900_000_000),
+    Entry(89, 4, true, -1_800_000_000, 1_800_000_000),
+    Entry(90, 4, true, -900_000_000, 900_000_000),
+    Entry(91, 4, true, -900_000_000, 900_000_000),
 ];
 
 fn table() -> [Entry; 64]
@@ -516,11 +127,11 @@ pub fn all_tags() -> TagSet
 }
 
 fn sign_of(row: Entry) -> Sign
-    requires { ⌜ SFits w64 (row .low +ℤ row .high) ⌝ }
+    requires { ⌜ SFits w64 (row .3 +ℤ row .4) ⌝ }
     ensures { λ r. ⌜ r ≡ signBy row ⌝ }
 {
-    if row.signed {
-        let middle = row.low + row.high;
+    if row.2 {
+        let middle = row.3 + row.4;
         if middle == 0 {
             return Sign::Marked;
         }
@@ -539,11 +150,11 @@ pub fn item_of(tag: u64) -> Found
         let rows = table();
         let row = rows[at];
         return Found::Known(Item {
-            tag: row.tag,
-            width: row.width,
+            tag: row.0,
+            width: row.1,
             sign: sign_of(row),
-            low: row.low,
-            high: row.high,
+            low: row.3,
+            high: row.4,
         });
     }
     Found::Absent
@@ -551,10 +162,10 @@ pub fn item_of(tag: u64) -> Found
 
 // A row's shape as a byte: the width, and 128 more where there is a mark.
 fn shape_byte(row: Entry) -> u8
-    requires { ⌜ (row .width < 128) × SFits w64 (row .low +ℤ row .high) ⌝ }
+    requires { ⌜ (row .1 < 128) × SFits w64 (row .3 +ℤ row .4) ⌝ }
     ensures { λ r. ⌜ r ≡ rowByte row ⌝ }
 {
-    let width = row.width as u8;
+    let width = row.1 as u8;
     match sign_of(row) {
         Sign::Marked => 128 + width,
         Sign::Signed => width,
@@ -571,7 +182,7 @@ pub fn shapes() -> [u8; 128]
     let mut i = 0;
     while i < 64 {
         let row = rows[i];
-        let at = row.tag as usize;
+        let at = row.0 as usize;
         column[at] = shape_byte(row);
         i += 1;
     }

@@ -15,16 +15,16 @@ add-middle c = search needs
 returns : tie.Need-returns
 returns c =
     let row = c .before .before .before .before .args .row in
-    let low : SFits w64 (row .low) = search needs in
-    let high : SFits w64 (row .high) = search needs in
+    let low : SFits w64 (row .3) = search needs in
+    let high : SFits w64 (row .4) = search needs in
     rw (c .before .before .before .if1 .taken, zero-bits _ (c .before .before .before .before .pre) (rw (toZ-ofZ low, toZ-ofZ high) at (c .if2 .taken)))
 
 returns-2 : tie.Need-returns-2
 returns-2 c =
     let row = c .before .before .before .before .args .row in
-    let low : SFits w64 (row .low) = search needs in
-    let high : SFits w64 (row .high) = search needs in
-    rw (c .before .before .before .if1 .taken, other-bits (row .low +ℤ row .high) (rw (toZ-ofZ low, toZ-ofZ high) at (c .if2 .left)))
+    let low : SFits w64 (row .3) = search needs in
+    let high : SFits w64 (row .4) = search needs in
+    rw (c .before .before .before .if1 .taken, other-bits (row .3 +ℤ row .4) (rw (toZ-ofZ low, toZ-ofZ high) at (c .if2 .left)))
 
 returns-3 : tie.Need-returns-3
 returns-3 c = search needs
