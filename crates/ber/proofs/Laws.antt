@@ -12,7 +12,7 @@ use borrow.Author.Tests.{ltb-true, ltb-false, leb-false, lt-ltb, le-ltb, lt-leb}
 use Rattle.base.specs.Cases.{byBool, byLt}
 use Rattle.number.specs.Stored.{Bytes, valueOf, bytesOf}
 use Rattle.number.proofs.Laws.{bytes-tail, bytes-take, bytes-back, length-bytesOf, value-small}
-use Rattle.ber.specs.Read.{Read, is, broken, tagThird, tagSecond, readTag, readLength}
+use Rattle.ber.specs.Read.{Read, got, broken, tagThird, tagSecond, readTag, readLength}
 use Rattle.ber.specs.Seen.{seen}
 use Rattle.ber.specs.declared.Field.{Field}
 use Rattle.ber.specs.declared.Field.the-variants.{Is, Broken}
@@ -23,34 +23,34 @@ use Rattle.ber.proofs.Sizes.{value-four}
 
 -- a tag by the number of its bytes
 module _ (l : List ℕ) where
-  pub read-one : (a : ℕ) → 0 < a → a < 128 → readTag (a ∷ l) ≡ is a 1
+  pub read-one : (a : ℕ) → 0 < a → a < 128 → readTag (a ∷ l) ≡ got a 1
   unfolding readTag
   read-one a h k = rw (lt-ltb a 128 k, lt-ltb 0 a h)
 
-  pub read-two : (a b : ℕ) → 128 < a → b < 128 → readTag (a ∷ b ∷ l) ≡ is ((a - 128) * 128 + b) 2
+  pub read-two : (a b : ℕ) → 128 < a → b < 128 → readTag (a ∷ b ∷ l) ≡ got ((a - 128) * 128 + b) 2
   unfolding readTag tagSecond
   read-two a b h k = rw (le-ltb a 128 (omega arith), lt-leb a 128 h, lt-ltb b 128 k)
 
-  pub read-three : (a b c : ℕ) → 128 < a → 128 ≤ b → c < 128 → readTag (a ∷ b ∷ c ∷ l) ≡ is (((a - 128) * 128 + (b - 128)) * 128 + c) 3
+  pub read-three : (a b c : ℕ) → 128 < a → 128 ≤ b → c < 128 → readTag (a ∷ b ∷ c ∷ l) ≡ got (((a - 128) * 128 + (b - 128)) * 128 + c) 3
   unfolding readTag tagSecond tagThird
   read-three a b c h k m = rw (le-ltb a 128 (omega arith), lt-leb a 128 h, le-ltb b 128 k, lt-ltb c 128 m)
 
 -- written, then read
-pub tag-written : (t : ℕ) (l : List ℕ) → 0 < t → t < 2097152 → readTag (tagBytes t ++ l) ≡ is t (length (tagBytes t))
+pub tag-written : (t : ℕ) (l : List ℕ) → 0 < t → t < 2097152 → readTag (tagBytes t ++ l) ≡ got t (length (tagBytes t))
 tag-written t l some small =
     byLt t 128
     (λ h. rw (tag-one t some h) (read-one l t some h))
     (λ h. byLt t 16384
-    (λ k. rw (tag-two t h k) (read-two l (128 + t / 128) (t % 128) (omega arith) (omega arith) ∙ ap (λ x. is x 2) (omega arith)))
+    (λ k. rw (tag-two t h k) (read-two l (128 + t / 128) (t % 128) (omega arith) (omega arith) ∙ ap (λ x. got x 2) (omega arith)))
     (λ k. rw (tag-three t k small)
-    (read-three l (128 + t / 16384) (128 + t / 128 % 128) (t % 128) (omega arith) (omega arith) (omega arith) ∙ ap (λ x. is x 3) (omega arith))))
+    (read-three l (128 + t / 16384) (128 + t / 128 % 128) (t % 128) (omega arith) (omega arith) (omega arith) ∙ ap (λ x. got x 3) (omega arith))))
 
 -- the forms of what may stand where a tag is read
 data TagView : List ℕ → Read → Type 0 where
   noTag : {l : List ℕ} → TagView l broken
-  oneByte : {a : ℕ} {l : List ℕ} → 0 < a → a < 128 → TagView (a ∷ l) (is a 1)
-  twoBytes : {a b : ℕ} {l : List ℕ} → 128 < a → b < 128 → TagView (a ∷ b ∷ l) (is ((a - 128) * 128 + b) 2)
-  threeBytes : {a b c : ℕ} {l : List ℕ} → 128 < a → 128 ≤ b → c < 128 → TagView (a ∷ b ∷ c ∷ l) (is (((a - 128) * 128 + (b - 128)) * 128 + c) 3)
+  oneByte : {a : ℕ} {l : List ℕ} → 0 < a → a < 128 → TagView (a ∷ l) (got a 1)
+  twoBytes : {a b : ℕ} {l : List ℕ} → 128 < a → b < 128 → TagView (a ∷ b ∷ l) (got ((a - 128) * 128 + b) 2)
+  threeBytes : {a b c : ℕ} {l : List ℕ} → 128 < a → 128 ≤ b → c < 128 → TagView (a ∷ b ∷ c ∷ l) (got (((a - 128) * 128 + (b - 128)) * 128 + c) 3)
 
 third-view : (a b : ℕ) (l : List ℕ) → 128 < a → 128 ≤ b → TagView (a ∷ b ∷ l) (tagThird ((a - 128) * 128 + (b - 128)) l)
 unfolding tagThird
@@ -79,10 +79,10 @@ pub record TagRead (l : List ℕ) (t s : ℕ) : Type 0 where
   pub inside : s ≤ length l
   pub same : l ≡ tagBytes t ++ drop s l
 
-pub tag-read : (l : List ℕ) (t s : ℕ) → Bytes l → readTag l ≡ is t s → TagRead l t s
+pub tag-read : (l : List ℕ) (t s : ℕ) → Bytes l → readTag l ≡ got t s → TagRead l t s
 tag-read l t s by h = go l (readTag l) (tag-view l) by h
   where
-    go : (l : List ℕ) (x : Read) → TagView l x → Bytes l → x ≡ is t s → TagRead l t s
+    go : (l : List ℕ) (x : Read) → TagView l x → Bytes l → x ≡ got t s → TagRead l t s
     go l x noTag by h = let z : _≡_ {A = ℕ} 0 1 = cc in absurd (omega arith)
     go l x (oneByte {a} p q) by h =
         let et : a ≡ t = cc in
@@ -109,7 +109,7 @@ tag-read l t s by h = go l (readTag l) (tag-view l) by h
         rw (← et, ← es) (record { some = omega arith; small = omega arith; size = rw e; inside = omega arith; same = rw e })
 
 -- a long length of n bytes, whatever n
-pub read-long : (n x : ℕ) (l : List ℕ) → 0 < n → n < 5 → x < 256 ^ n → readLength (long n x ++ l) ≡ is x (n + 1)
+pub read-long : (n x : ℕ) (l : List ℕ) → 0 < n → n < 5 → x < 256 ^ n → readLength (long n x ++ l) ≡ got x (n + 1)
 unfolding readLength
 read-long n x l some few small =
     let e : 128 + n - 128 ≡ n = omega arith in
@@ -124,11 +124,11 @@ read-long n x l some few small =
       bytes-back n x small,
     )
 
-pub read-short : (x : ℕ) (l : List ℕ) → x < 128 → readLength (x ∷ l) ≡ is x 1
+pub read-short : (x : ℕ) (l : List ℕ) → x < 128 → readLength (x ∷ l) ≡ got x 1
 unfolding readLength
 read-short x l h = rw (lt-ltb x 128 h)
 
-pub length-written : (x : ℕ) (l : List ℕ) → x < 2 ^ 32 → readLength (lengthBytes x ++ l) ≡ is x (length (lengthBytes x))
+pub length-written : (x : ℕ) (l : List ℕ) → x < 2 ^ 32 → readLength (lengthBytes x ++ l) ≡ got x (length (lengthBytes x))
 unfolding bytesOf
 length-written x l small =
     byLt x 128 (λ h. rw (length-one x h) (read-short x l h))
@@ -166,8 +166,8 @@ shortest (suc (suc (suc (suc n)))) x small some fits = omega (arith, sized x sma
 -- the forms of what may stand where a length is read
 data LengthView : List ℕ → Read → Type 0 where
   noLength : {l : List ℕ} → LengthView l broken
-  short : {a : ℕ} {l : List ℕ} → a < 128 → LengthView (a ∷ l) (is a 1)
-  longer : {a : ℕ} {l : List ℕ} → 128 < a → a ≤ 132 → a - 128 ≤ length l → LengthView (a ∷ l) (is (valueOf (take (a - 128) l)) (a - 128 + 1))
+  short : {a : ℕ} {l : List ℕ} → a < 128 → LengthView (a ∷ l) (got a 1)
+  longer : {a : ℕ} {l : List ℕ} → 128 < a → a ≤ 132 → a - 128 ≤ length l → LengthView (a ∷ l) (got (valueOf (take (a - 128) l)) (a - 128 + 1))
 
 length-view : (l : List ℕ) → LengthView l (readLength l)
 unfolding readLength
@@ -204,10 +204,10 @@ long-read a l by p q m =
       form = rw whole (subst (λ x. LengthForm (valueOf ds) (x ∷ ds)) first (longForm ds (omega arith) (omega arith)));
     }
 
-pub length-read : (l : List ℕ) (x s : ℕ) → Bytes l → readLength l ≡ is x s → LengthRead l x s
+pub length-read : (l : List ℕ) (x s : ℕ) → Bytes l → readLength l ≡ got x s → LengthRead l x s
 length-read l x s by h = go l (readLength l) (length-view l) by h
   where
-    go : (l : List ℕ) (r : Read) → LengthView l r → Bytes l → r ≡ is x s → LengthRead l x s
+    go : (l : List ℕ) (r : Read) → LengthView l r → Bytes l → r ≡ got x s → LengthRead l x s
     go l r noLength by h = let z : _≡_ {A = ℕ} 0 1 = cc in absurd (omega arith)
     go l r (short {a} p) by h =
         let ex : a ≡ x = cc in
@@ -220,7 +220,7 @@ length-read l x s by h = go l (readLength l) (length-view l) by h
         rw (← ex, ← es) (long-read a m (bytes-tail by) p q k)
 
 -- each form of a length reads as that length
-pub form-read : {x : ℕ} {f : List ℕ} → LengthForm x f → (l : List ℕ) → readLength (f ++ l) ≡ is x (length f)
+pub form-read : {x : ℕ} {f : List ℕ} → LengthForm x f → (l : List ℕ) → readLength (f ++ l) ≡ got x (length f)
 unfolding readLength
 form-read (shortForm {x} h) l = rw (lt-ltb x 128 h)
 form-read (longForm ds some few) l =
