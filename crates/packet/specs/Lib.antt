@@ -1,0 +1,5 @@
+pub mod Pieces
+pub mod Structure
+pub mod Judge
+pub mod Verdict
+pub mod Rows

@@ -1,0 +1,79 @@
+-- Document 01, Rows: "A row is four 64-bit words: tag; kind (1 reading, 2 mark, 3 text, 4 carried); the stored code as an
+-- unsigned number (0 for text and carried); place of the value × 65,536 + its length."
+use Prim.Native.Nat.{ℕ, _+_, _-_, _*_, _^_}
+use mathlib.Core.Bool.{cond, _&&_}
+use mathlib.Core.List.{List, [], _∷_, _++_}
+use lib.ListN.{length, drop, replicate}
+use lib.Dec.{ltb, eqb}
+use Rattle.refusal.specs.Answer.{Answer, given, refused}
+use Rattle.number.specs.Stored.{valueOf}
+use Rattle.tagset.specs.Sets.{holds}
+use Rattle.tagset.specs.declared.TagSet.{TagSet}
+use Rattle.knowing.specs.Good.{good}
+use Rattle.catalogue.specs.Shapes.{shapeOf}
+use Rattle.catalogue.specs.declared.Shape.{Shape}
+use Rattle.catalogue.specs.declared.Shape.the-variants.{Text, Number, Absent}
+use Rattle.packet.specs.Pieces.{Item}
+use Rattle.packet.specs.Judge.{Knowing}
+use Rattle.packet.specs.Verdict.{verdict, counted}
+
+-- the shape that a receiver gives a tag: it carries what it does not know
+unfoldable pub shapeFor : Knowing → ℕ → Shape
+shapeFor K t = cond (K t) (shapeOf t) Absent
+
+-- the kind of a value, by its shape and its code
+abbrev pub kindIn : Shape → ℕ → ℕ
+kindIn (Number width marked) code = cond (marked && eqb code (2 ^ (8 * width - 1))) 2 1
+kindIn Text code = 3
+kindIn Absent code = 4
+
+abbrev pub codeIn : Shape → ℕ → ℕ
+codeIn (Number width marked) code = code
+codeIn Text code = 0
+codeIn Absent code = 0
+
+pub record Row : Type 0 where
+  pub tag : ℕ
+  pub kind : ℕ
+  pub code : ℕ
+  pub spot : ℕ
+
+abbrev pub rowBy : Shape → Item → Row
+rowBy shape i =
+    record {
+      tag = i .piece .tag;
+      kind = kindIn shape (valueOf (i .piece .value));
+      code = codeIn shape (valueOf (i .piece .value));
+      spot = i .place * 65536 + length (i .piece .value);
+    }
+
+unfoldable pub rowOf : Knowing → Item → Row
+rowOf K i = rowBy (shapeFor K (i .piece .tag)) i
+
+unfoldable pub rowsOf : Knowing → List Item → List Row
+rowsOf K [] = []
+rowsOf K (i ∷ is) = rowOf K i ∷ rowsOf K is
+
+unfoldable pub words : List Row → List ℕ
+words [] = []
+words (r ∷ rs) = r .tag ∷ r .kind ∷ r .code ∷ r .spot ∷ words rs
+
+-- "an accepted packet fills row after row and sets the rest of the first 512 to zero; words beyond stay"
+unfoldable pub tableOf : Knowing → List Item → List ℕ → List ℕ
+tableOf K is t = words (rowsOf K is) ++ (replicate (512 - 4 * length is) 0 ++ drop 512 t)
+
+-- a receiver that is lent a table of words
+unfoldable pub lentVerdict : TagSet → List ℕ → List ℕ → Answer (List Item)
+lentVerdict K p t =
+    cond (good K) (cond (ltb (length t) 512) (refused 2 0 0) (verdict (holds K) p)) (refused 1 0 0)
+
+unfoldable pub readAnswer : TagSet → List ℕ → List ℕ → Answer ℕ
+readAnswer K p t = counted (lentVerdict K p t)
+
+-- "An answer of refusal … changes no lent memory."
+abbrev pub tableBy : Knowing → List ℕ → Answer (List Item) → List ℕ
+tableBy K t (given is) = tableOf K is t
+tableBy K t (refused n p g) = t
+
+unfoldable pub readTable : TagSet → List ℕ → List ℕ → List ℕ
+readTable K p t = tableBy (holds K) t (lentVerdict K p t)

@@ -1,0 +1,43 @@
+-- What a receiver answers of a packet: the items, or the first refusal in document 01's order.
+use Prim.Native.Nat.{ℕ, zero, suc}
+use mathlib.Core.Bool.{cond}
+use mathlib.Core.List.{List, [], _∷_}
+use lib.ListN.{length}
+use lib.Dec.{ltb}
+use Rattle.refusal.specs.Answer.{Answer, given, refused}
+use Rattle.tagset.specs.Sets.{holds}
+use Rattle.tagset.specs.declared.TagSet.{TagSet}
+use Rattle.knowing.specs.Good.{good}
+use Rattle.packet.specs.Pieces.{Item, pieces}
+use Rattle.packet.specs.Structure.{structure}
+use Rattle.packet.specs.Judge.{Knowing, Judged, fine, faulty, noVersion, judge}
+
+-- where the item at an index starts
+abbrev pub startOf : ℕ → List Item → ℕ
+startOf k [] = 0
+startOf zero (i ∷ is) = i .start
+startOf (suc k) (i ∷ is) = startOf k is
+
+abbrev pub placed : List Item → Judged → Answer (List Item)
+placed is fine = given is
+placed is (faulty k n t) = refused n (startOf k is) t
+placed is noVersion = refused 15 0 0
+
+abbrev pub judged : Knowing → Answer (List Item) → Answer (List Item)
+judged K (refused n p t) = refused n p t
+judged K (given is) = placed is (judge K (pieces is))
+
+unfoldable pub verdict : Knowing → List ℕ → Answer (List Item)
+verdict K p = judged K (structure p)
+
+-- the verdict of a receiver that is lent no table
+unfoldable pub received : TagSet → List ℕ → Answer (List Item)
+received K p = cond (good K) (verdict (holds K) p) (refused 1 0 0)
+
+-- how many items there are
+abbrev pub counted : Answer (List Item) → Answer ℕ
+counted (given is) = given (length is)
+counted (refused n p t) = refused n p t
+
+unfoldable pub checked : TagSet → List ℕ → Answer ℕ
+checked K p = counted (received K p)
