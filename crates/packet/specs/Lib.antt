@@ -3,3 +3,4 @@ pub mod Structure
 pub mod Judge
 pub mod Verdict
 pub mod Rows
+pub mod Headers

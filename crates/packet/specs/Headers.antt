@@ -1,0 +1,35 @@
+-- What the code's answers say, in the terms of the definitions.
+use Prim.Native.Nat.{ℕ, _+_}
+use mathlib.Core.List.{List}
+use lib.ListN.{length, drop}
+use Rattle.refusal.specs.Numbers.{number}
+use Rattle.refusal.specs.Answer.{Answer, given, refused, refusal}
+use Rattle.packet.specs.Pieces.{Item, noTag, noLength, one, readItem}
+use Rattle.packet.specs.Pieces as pieces
+use Rattle.packet.specs.Judge as judge
+use Rattle.packet.specs.declared.Header.{Header}
+use Rattle.packet.specs.declared.Step.{Step}
+use Rattle.packet.specs.declared.Step.the-variants as step
+use Rattle.packet.specs.declared.Fault.{Fault}
+use Rattle.packet.specs.declared.Fault.the-variants.{Clean, Wrong}
+
+-- an item's header
+abbrev pub headerOf : Item → Header
+headerOf i = record { tag = i .piece .tag; start = i .start; place = i .place; size = length (i .piece .value) }
+
+-- the header of the item that begins at a place
+abbrev pub headerBy : ℕ → pieces.Step → Answer Header
+headerBy at noTag = refused 7 at 0
+headerBy at (noLength t) = refused 8 at t
+headerBy at (one t h n) = given (record { tag = t; start = at; place = at + h; size = n })
+
+unfoldable pub headerAt : List ℕ → ℕ → Answer Header
+headerAt p at = headerBy at (readItem (drop at p))
+
+abbrev pub stepSaid : Step → Answer Header
+stepSaid (step.Item h) = given h
+stepSaid (step.Refused r) = refusal r
+
+abbrev pub faultSaid : Fault → judge.Fault
+faultSaid Clean = judge.clean
+faultSaid (Wrong r) = judge.wrong (number r)
