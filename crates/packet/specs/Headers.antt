@@ -1,7 +1,7 @@
 -- What the code's answers say, in the terms of the definitions.
 use Prim.Native.Nat.{ℕ, _+_}
 use mathlib.Core.List.{List}
-use lib.ListN.{length, drop}
+use lib.ListN.{length, take, drop}
 use Rattle.refusal.specs.Numbers.{number}
 use Rattle.refusal.specs.Answer.{Answer, given, refused, refusal}
 use Rattle.packet.specs.Pieces.{Item, noTag, noLength, one, readItem}
@@ -16,6 +16,10 @@ use Rattle.packet.specs.declared.Fault.the-variants.{Clean, Wrong}
 -- an item's header
 abbrev pub headerOf : Item → Header
 headerOf i = record { tag = i .piece .tag; start = i .start; place = i .place; size = length (i .piece .value) }
+
+-- the item that a header of a packet stands for
+abbrev pub itemBy : List ℕ → Header → Item
+itemBy p h = record { start = h .start; place = h .place; piece = record { tag = h .tag; value = take (h .size) (drop (h .place) p) } }
 
 -- the header of the item that begins at a place
 abbrev pub headerBy : ℕ → pieces.Step → Answer Header

@@ -4,3 +4,4 @@ pub mod Judge
 pub mod Verdict
 pub mod Rows
 pub mod Headers
+pub mod Tally

@@ -4,7 +4,9 @@ ghost use Prim.Native.Nat.{_+_, _≤_};
 ghost use lib.ListN.{length, drop};
 ghost use Rattle.refusal.specs.Answer.{refused};
 ghost use Rattle.packet.specs.Judge.{shapeFault};
-ghost use Rattle.packet.specs.Headers.{stepSaid, headerAt, faultSaid};
+ghost use Rattle.catalogue.specs.Column.{shapeColumn};
+ghost use Rattle.packet.specs.Headers.{itemBy, stepSaid, headerAt, faultSaid};
+ghost use Rattle.packet.specs.Tally.{faultIn};
 use catalogue::Shape;
 use refusal::Reason;
 use refusal::Refusal;
@@ -84,4 +86,42 @@ pub fn fault_of(shape: Shape, tag: u64, size: usize, twice: bool, code: u64) -> 
         return Fault::Wrong(Reason::CodeNotAllowed);
     }
     Fault::Wrong(Reason::LengthNotAllowed)
+}
+
+// The first fault that a walk has met.
+enum First {
+    None,
+    At(Refusal),
+}
+
+// What a walk keeps of the items that it has passed: how many, the first one's tag, the last one, the tags seen, the first fault.
+struct Tally {
+    count: usize,
+    first: u64,
+    last: Header,
+    seen: TagSet,
+    fault: First,
+}
+
+enum Walk {
+    Whole(Tally),
+    Refused(Refusal),
+}
+
+// What is wrong with an item for a receiver: nothing where it does not know the tag.
+fn fault_at(packet: &[u8], column: &[u8; 128], known: TagSet, seen: TagSet, item: Header) -> Fault
+    requires { ⌜ (now column ≡ shapeColumn) × (item .place + item .size ≤ length (now packet)) ⌝ }
+    ensures { λ r. ⌜ faultSaid r ≡ faultIn known seen (itemBy (now (packet .entry)) item) ⌝ }
+{
+    let tag = item.tag;
+    let size = item.size;
+    let place = item.place;
+    if tagset::has(known, tag) {
+        let shape = catalogue::shape_at(column, tag);
+        let end = place + size;
+        let code = number::value(&packet[place..end]);
+        let twice = tagset::has(seen, tag);
+        return fault_of(shape, tag, size, twice, code);
+    }
+    Fault::Clean
 }
