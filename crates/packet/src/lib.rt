@@ -1,12 +1,15 @@
 // A packet checked: structure, then what the receiver knows of its items, in one walk.
 ghost use mathlib.Core.Path.{_≡_};
 ghost use Prim.Native.Nat.{_+_, _≤_};
+ghost use lib.Dec.{eqb};
 ghost use lib.ListN.{length, drop};
+ghost use mathlib.Core.Bool.{cond};
 ghost use Rattle.refusal.specs.Answer.{refused};
 ghost use Rattle.packet.specs.Judge.{shapeFault};
 ghost use Rattle.catalogue.specs.Column.{shapeColumn};
 ghost use Rattle.packet.specs.Headers.{itemBy, stepSaid, headerAt, faultSaid};
-ghost use Rattle.packet.specs.Tally.{faultIn};
+ghost use Rattle.packet.specs.Pieces.{walk as walkItems};
+ghost use Rattle.packet.specs.Tally.{faultIn, firstFault, firstSaid, withHeader, fresh, tallied, tallySaid, walkSaid};
 use catalogue::Shape;
 use refusal::Reason;
 use refusal::Refusal;
@@ -124,4 +127,92 @@ fn fault_at(packet: &[u8], column: &[u8; 128], known: TagSet, seen: TagSet, item
         return fault_of(shape, tag, size, twice, code);
     }
     Fault::Clean
+}
+
+// The fault met first stays.
+fn first_fault(met: First, fault: Fault, item: Header) -> First
+    ensures { λ r. ⌜ firstSaid r ≡ firstFault (firstSaid met) (faultSaid fault) (item .start) (item .tag) ⌝ }
+{
+    match met {
+        First::At(_) => met,
+        First::None => match fault {
+            Fault::Clean => First::None,
+            Fault::Wrong(reason) => First::At(Refusal {
+                reason,
+                place: item.start,
+                tag: item.tag,
+            }),
+        },
+    }
+}
+
+fn first_tag(count: usize, first: u64, tag: u64) -> u64
+    ensures { λ r. ⌜ r ≡ cond (eqb count 0) tag first ⌝ }
+{
+    if count == 0 {
+        return tag;
+    }
+    first
+}
+
+fn with_item(tally: Tally, item: Header, fault: Fault) -> Tally
+    requires { ⌜ tally .count ≤ 128 ⌝ }
+    ensures { λ r. ⌜ tallySaid r ≡ withHeader (tallySaid tally) item (faultSaid fault) ⌝ }
+{
+    let met = tally.fault;
+    let count = tally.count;
+    Tally {
+        count: count + 1,
+        first: first_tag(count, tally.first, item.tag),
+        last: item,
+        seen: tagset::with_tag(tally.seen, item.tag),
+        fault: first_fault(met, fault, item),
+    }
+}
+
+fn fresh_tally() -> Tally
+    ensures { λ r. ⌜ tallySaid r ≡ fresh ⌝ }
+{
+    Tally {
+        count: 0,
+        first: 0,
+        last: Header {
+            tag: 0,
+            start: 0,
+            place: 0,
+            size: 0,
+        },
+        seen: TagSet { low: 0, high: 0 },
+        fault: First::None,
+    }
+}
+
+// All items from a place to the packet's end, at most 128 of them.
+fn walk_from(packet: &[u8], from: usize, column: &[u8; 128], known: TagSet) -> Walk
+    requires { ⌜ now column ≡ shapeColumn ⌝ }
+    ensures { λ r. ⌜ walkSaid r ≡ tallied known fresh (walkItems 128 from (drop from (now (packet .entry)))) ⌝ }
+{
+    let mut here = from;
+    let mut tally = fresh_tally();
+    while here < packet.len() {
+        let count = tally.count;
+        if count == 128 {
+            return Walk::Refused(Refusal {
+                reason: Reason::TooManyItems,
+                place: here,
+                tag: 0,
+            });
+        }
+        match item_at(packet, here) {
+            Step::Refused(refusal) => {
+                return Walk::Refused(refusal);
+            }
+            Step::Item(item) => {
+                let fault = fault_at(packet, column, known, tally.seen, item);
+                tally = with_item(tally, item, fault);
+                here = item.place + item.size;
+            }
+        }
+    }
+    Walk::Whole(tally)
 }
