@@ -5,3 +5,4 @@ pub mod Verdict
 pub mod Rows
 pub mod Headers
 pub mod Tally
+pub mod Concluded

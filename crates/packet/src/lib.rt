@@ -2,13 +2,17 @@
 ghost use mathlib.Core.Path.{_≡_};
 ghost use Prim.Native.Nat.{_+_, _≤_};
 ghost use lib.Dec.{eqb};
-ghost use lib.ListN.{length, drop};
+ghost use lib.ListN.{length, take, drop};
 ghost use mathlib.Core.Bool.{cond};
-ghost use Rattle.refusal.specs.Answer.{refused};
+ghost use Rattle.refusal.specs.Numbers.{number};
+ghost use Rattle.refusal.specs.Answer.{refused as refusedBy};
 ghost use Rattle.packet.specs.Judge.{shapeFault};
 ghost use Rattle.catalogue.specs.Column.{shapeColumn};
 ghost use Rattle.packet.specs.Headers.{itemBy, stepSaid, headerAt, faultSaid};
 ghost use Rattle.packet.specs.Pieces.{walk as walkItems};
+ghost use Rattle.packet.specs.Structure.{key, same};
+ghost use Rattle.packet.specs.Concluded.{framedAt, frameSaid, checkSaid, judgement, lastBy, concluded, walkedBy};
+ghost use Rattle.packet.specs.Verdict.{checked};
 ghost use Rattle.packet.specs.Tally.{faultIn, firstFault, firstSaid, withHeader, fresh, tallied, tallySaid, walkSaid};
 use catalogue::Shape;
 use refusal::Reason;
@@ -215,4 +219,150 @@ fn walk_from(packet: &[u8], from: usize, column: &[u8; 128], known: TagSet) -> W
         }
     }
     Walk::Whole(tally)
+}
+
+fn has_key(packet: &[u8]) -> bool
+    ensures { λ r. ⌜ r ≡ same (take 16 (now (packet .entry))) key ⌝ }
+{
+    if packet.len() < 16 {
+        return false;
+    }
+    if number::value(&packet[0..8]) == 0x060E_2B34_020B_0101 {
+        return number::value(&packet[8..16]) == 0x0E01_0301_0100_0000;
+    }
+    false
+}
+
+// Where the items begin.
+enum Frame {
+    From(usize),
+    Refused(Refusal),
+}
+
+fn unframed(reason: Reason, place: usize) -> Frame
+    ensures { λ r. ⌜ frameSaid r ≡ refusedBy (number reason) place 0 ⌝ }
+{
+    Frame::Refused(Refusal {
+        reason,
+        place,
+        tag: 0,
+    })
+}
+
+// The key and the outer length.
+fn framed(packet: &[u8]) -> Frame
+    ensures { λ r. ⌜ frameSaid r ≡ framedAt (now (packet .entry)) ⌝ }
+{
+    if 8192 < packet.len() {
+        return unframed(Reason::PacketTooLong, 0);
+    }
+    if has_key(packet) {
+        let ber::Field::Is { value, size } = ber::length_at(packet, 16) else {
+            return unframed(Reason::OuterLengthWrong, 16);
+        };
+        let from = 16 + size;
+        let rest = value as usize;
+        if packet.len() == from + rest {
+            return Frame::From(from);
+        }
+        return unframed(Reason::OuterLengthWrong, 16);
+    }
+    unframed(Reason::KeyDiffers, 0)
+}
+
+// An accepted packet: where its items begin, and how many there are.
+pub struct Accepted {
+    pub from: usize,
+    pub count: usize,
+}
+
+pub enum Checked {
+    Accepted(Accepted),
+    Refused(Refusal),
+}
+
+fn refused(reason: Reason, place: usize, tag: u64) -> Checked
+    ensures { λ r. ⌜ checkSaid r ≡ refusedBy (number reason) place tag ⌝ }
+{
+    Checked::Refused(Refusal { reason, place, tag })
+}
+
+// The first fault of a known item, then item 65.
+fn judged(from: usize, tally: Tally) -> Checked
+    ensures { λ r. ⌜ checkSaid r ≡ judgement from (tallySaid tally) ⌝ }
+{
+    let fault = tally.fault;
+    match fault {
+        First::At(refusal) => Checked::Refused(refusal),
+        First::None => {
+            if tagset::has(tally.seen, 65) {
+                return Checked::Accepted(Accepted {
+                    from,
+                    count: tally.count,
+                });
+            }
+            refused(Reason::VersionMissing, 0, 0)
+        }
+    }
+}
+
+// The last item, the checksum, and then the receiver's judgement.
+fn ended(packet: &[u8], from: usize, tally: Tally) -> Checked
+    requires { ⌜ tally .last .place + tally .last .size ≤ length (now packet) ⌝ }
+    ensures { λ r. ⌜ checkSaid r ≡ lastBy (now (packet .entry)) (tally .last) (judgement from (tallySaid tally)) ⌝ }
+{
+    let last = tally.last;
+    let place = last.place;
+    let size = last.size;
+    if last.tag == 1 {
+        if size == 2 {
+            let end = place + size;
+            let stored = number::value(&packet[place..end]);
+            let summed = checksum::checksum(&packet[..place]) as u64;
+            if stored == summed {
+                return judged(from, tally);
+            }
+            return refused(Reason::ChecksumDiffers, place, 1);
+        }
+    }
+    refused(Reason::LastNotChecksum, last.start, last.tag)
+}
+
+// The first item before that.
+fn conclude(packet: &[u8], from: usize, tally: Tally) -> Checked
+    requires { ⌜ tally .last .place + tally .last .size ≤ length (now packet) ⌝ }
+    ensures { λ r. ⌜ checkSaid r ≡ concluded (now (packet .entry)) from (tallySaid tally) ⌝ }
+{
+    let first = tally.first;
+    if tally.count == 0 {
+        return refused(Reason::FirstNotTimeStamp, packet.len(), 0);
+    }
+    if first == 2 {
+        return ended(packet, from, tally);
+    }
+    refused(Reason::FirstNotTimeStamp, from, first)
+}
+
+// The items, once it is known where they begin.
+fn check_from(packet: &[u8], from: usize, known: TagSet) -> Checked
+    ensures { λ r. ⌜ checkSaid r ≡ walkedBy (now (packet .entry)) from (tallied known fresh (walkItems 128 from (drop from (now (packet .entry))))) ⌝ }
+{
+    let column = catalogue::shapes();
+    match walk_from(packet, from, &column, known) {
+        Walk::Refused(refusal) => Checked::Refused(refusal),
+        Walk::Whole(tally) => conclude(packet, from, tally),
+    }
+}
+
+// Whether a receiver accepts a packet: document 01's refusals in their order, but for 2.
+pub fn check(packet: &[u8], known: TagSet) -> Checked
+    ensures { λ r. ⌜ checkSaid r ≡ checked known (now (packet .entry)) ⌝ }
+{
+    if knowing::is_good(known) {
+        return match framed(packet) {
+            Frame::Refused(refusal) => Checked::Refused(refusal),
+            Frame::From(from) => check_from(packet, from, known),
+        };
+    }
+    refused(Reason::SetNotGood, 0, 0)
 }
