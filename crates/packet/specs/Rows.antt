@@ -1,42 +1,20 @@
 -- Document 01, Rows: "A row is four 64-bit words: tag; kind (1 reading, 2 mark, 3 text, 4 carried); the stored code as an
 -- unsigned number (0 for text and carried); place of the value × 65,536 + its length."
-use Prim.Native.Nat.{ℕ, _+_, _-_, _*_, _^_}
-use mathlib.Core.Bool.{cond, _&&_}
+use Prim.Native.Nat.{ℕ, _+_, _-_, _*_}
+use mathlib.Core.Bool.{cond}
 use mathlib.Core.List.{List, [], _∷_, _++_}
 use lib.ListN.{length, drop, replicate}
-use lib.Dec.{ltb, eqb}
+use lib.Dec.{ltb}
 use Rattle.refusal.specs.Answer.{Answer, given, refused}
 use Rattle.number.specs.Stored.{valueOf}
 use Rattle.tagset.specs.Sets.{holds}
 use Rattle.tagset.specs.declared.TagSet.{TagSet}
 use Rattle.knowing.specs.Good.{good}
-use Rattle.catalogue.specs.Shapes.{shapeOf}
 use Rattle.catalogue.specs.declared.Shape.{Shape}
-use Rattle.catalogue.specs.declared.Shape.the-variants.{Text, Number, Absent}
+pub use Rattle.rows.specs.Kinds.{Row, shapeFor, kindIn, codeIn}
 use Rattle.packet.specs.Pieces.{Item}
 use Rattle.packet.specs.Judge.{Knowing}
 use Rattle.packet.specs.Verdict.{verdict, counted}
-
--- the shape that a receiver gives a tag: it carries what it does not know
-unfoldable pub shapeFor : Knowing → ℕ → Shape
-shapeFor K t = cond (K t) (shapeOf t) Absent
-
--- the kind of a value, by its shape and its code
-abbrev pub kindIn : Shape → ℕ → ℕ
-kindIn (Number width marked) code = cond (marked && eqb code (2 ^ (8 * width - 1))) 2 1
-kindIn Text code = 3
-kindIn Absent code = 4
-
-abbrev pub codeIn : Shape → ℕ → ℕ
-codeIn (Number width marked) code = code
-codeIn Text code = 0
-codeIn Absent code = 0
-
-pub record Row : Type 0 where
-  pub tag : ℕ
-  pub kind : ℕ
-  pub code : ℕ
-  pub spot : ℕ
 
 abbrev pub rowBy : Shape → Item → Row
 rowBy shape i =
