@@ -2,20 +2,21 @@
 -- Assumes nothing.
 use Prim.Native.Nat.{ℕ, _+_, _<_, _≤_}
 use native.Mathlib.Numerals.{add-one}
-use mathlib.Core.Path.{_≡_, refl, ap, sym}
+use native.Mathlib.Omega.{arith}
+use mathlib.Core.Path.{_≡_, refl, ap, sym, _∙_}
 use mathlib.Core.Bool.{Bool, true, false, _&&_}
 use mathlib.Core.List.{List, [], _∷_}
-use lib.Dec.{ltb, eqb}
+use lib.Dec.{ltb, leb, eqb}
 use lib.IntN.{_+ℤ_}
 use lib.ListN.{length, getD, set, drop, replicate, drop-of-length-le}
 use lib.Seq.{drop-cons}
 use mir.Syntax.{w64}
 use mir.Val.{SFits}
-use borrow.Author.Tests.{ltb-true, eqb-true, le-leb, lt-leb}
+use borrow.Author.Tests.{ltb-true, leb-true, eqb-true, le-leb, lt-leb}
 use Rattle.base.specs.Cases.{byLt, clash}
 use Rattle.base.specs.Every.{all, all-at, allBelow, all-below, both-left, both-right}
 use Rattle.catalogue.specs.Items.{groups, member, itemIn, itemOf}
-use Rattle.catalogue.specs.Shapes.{shapeOf}
+use Rattle.catalogue.specs.Shapes.{shapeBy, shapeOf}
 use Rattle.catalogue.specs.Rows.{rowsFrom, rows}
 use Rattle.catalogue.specs.Column.{columnFrom, shapeColumn, shapeFrom, shapeIn, rowByte}
 use Rattle.catalogue.specs.declared.Entry.{Entry}
@@ -110,3 +111,24 @@ shape-in-column t =
     byLt t 128
     (λ h. rw (lt-leb 128 t h) (same-shape _ _ (all-below inColumn 128 all-in-column t h)))
     (λ h. rw (le-leb 128 t h, item-beyond t h))
+
+-- no number has more than eight bytes
+narrow : Shape → Bool
+narrow Text = true
+narrow (Number w m) = leb w 8
+narrow Absent = true
+
+all-narrow : allBelow (λ t. narrow (shapeOf t)) 128 ≡ true
+unfolding groups member itemIn itemOf shapeOf narrow
+all-narrow = refl
+
+unshape : (u : ℕ) → shapeBy (itemOf u) ≡ shapeOf u
+unfolding shapeOf
+unshape u = refl
+
+pub number-width : (t w : ℕ) (m : Bool) → shapeOf t ≡ Number w m → w ≤ 8
+unfolding narrow
+number-width t w m e =
+    byLt t 128
+    (λ h. leb-true w 8 (ap narrow (sym e) ∙ all-below (λ u. narrow (shapeOf u)) 128 all-narrow t h))
+    (λ h. let f : Shape.Absent ≡ Number w m = sym (ap shapeBy (item-beyond t h)) ∙ (unshape t ∙ e) in let z : _≡_ {A = ℕ} 0 1 = cc in absurd (omega arith))

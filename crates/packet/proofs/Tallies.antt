@@ -172,6 +172,18 @@ pub last-within : (p : List ℕ) → Bytes p → {at : ℕ} (i : Item) (is : Lis
 last-within p by i [] (went h e w) = record { header = h; item = refl; inside = header-lies p _ by h e .inside }
 last-within p by i (j ∷ js) (went h e w) = last-within p by j js w
 
+-- a walk's first item starts where the walk does
+start-at : (at : ℕ) (s : Step) (h : Header) → headerBy at s ≡ given h → h .start ≡ at
+start-at at noTag h e = let z : _≡_ {A = ℕ} 0 1 = cc in absurd (omega arith)
+start-at at (noLength t) h e = let z : _≡_ {A = ℕ} 0 1 = cc in absurd (omega arith)
+start-at at (one t k n) h e =
+    let f : record { tag = t; start = at; place = at + k; size = n } ≡ h = cc in
+    ap (λ g. g .start) (sym f)
+
+pub first-start : (p : List ℕ) {at : ℕ} (i : Item) (is : List Item) → Walked p at (i ∷ is) → i .start ≡ at
+unfolding headerAt
+first-start p {at} i is (went h e v) = start-at at (readItem (drop at p)) h e
+
 -- what is left of a verdict where only the first item's place and the count are kept
 body-of : (i : Item) (is : List Item) (j : Judged) → accepted (placed (i ∷ is) j) ≡ bodyBy (i .start) (length (i ∷ is)) (i ∷ is) j
 unfolding bodyBy
@@ -204,17 +216,6 @@ module _ (K : TagSet) (w : Words K) (p : List ℕ) (by : Bytes p) where
       (through-cond K (eqb (valueOf (z .piece .value)) (checksumOf (take (z .place) p))) _ _
       ∙ ap (λ u. cond (eqb (valueOf u) (checksumOf (take (z .place) p))) (accepted (judged (holds K) (given is))) (refused 11 (z .place) 1)) (sym e))
 
-  start-at : (at : ℕ) (s : Step) (h : Header) → headerBy at s ≡ given h → h .start ≡ at
-  start-at at noTag h e = let z : _≡_ {A = ℕ} 0 1 = cc in absurd (omega arith)
-  start-at at (noLength t) h e = let z : _≡_ {A = ℕ} 0 1 = cc in absurd (omega arith)
-  start-at at (one t k n) h e =
-      let f : record { tag = t; start = at; place = at + k; size = n } ≡ h = cc in
-      ap (λ g. g .start) (sym f)
-
-  first-start : {at : ℕ} (i : Item) (is : List Item) → Walked p at (i ∷ is) → i .start ≡ at
-  unfolding headerAt
-  first-start {at} i is (went h e v) = start-at at (readItem (drop at p)) h e
-
   some-items : (from : ℕ) (T : Tally) → (T .count ≡ 0 → ⊥) → concluded p from T ≡ cond (eqb (T .first) 2) (lastBy p (T .last) (judgement from T)) (refused 9 from (T .first))
   unfolding concluded
   some-items from T h = rw (ne-eqb (T .count) 0 h)
@@ -232,7 +233,7 @@ module _ (K : TagSet) (w : Words K) (p : List ℕ) (by : Bytes p) where
       let z : Item = lastOf i is in
       let t : ℕ = i .piece .tag in
       let some : T .count ≡ 0 → ⊥ = λ e. omega (arith, tally-count K fresh (i ∷ is)) in
-      let start : i .start ≡ from = first-start i is v in
+      let start : i .start ≡ from = first-start p i is v in
       let left : accepted (judged (holds K) (lastly p z (i ∷ is))) ≡ lastBy p (headerOf z) (judgement from T) =
       last-by z (i ∷ is) (last-within p by i is v)
       ∙ ap (lastBy p (headerOf z)) (judged-body K i is w ∙ ap (λ a. judgement a T) start) in

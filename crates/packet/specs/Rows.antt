@@ -11,7 +11,8 @@ use Rattle.tagset.specs.Sets.{holds}
 use Rattle.tagset.specs.declared.TagSet.{TagSet}
 use Rattle.knowing.specs.Good.{good}
 use Rattle.catalogue.specs.declared.Shape.{Shape}
-pub use Rattle.rows.specs.Kinds.{Row, shapeFor, kindIn, codeIn}
+pub use Rattle.rows.specs.Kinds.{Row, kindIn, codeIn}
+unfoldable pub use Rattle.rows.specs.Kinds.{shapeFor}
 use Rattle.packet.specs.Pieces.{Item}
 use Rattle.packet.specs.Judge.{Knowing}
 use Rattle.packet.specs.Verdict.{verdict, counted}

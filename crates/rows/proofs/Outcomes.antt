@@ -5,8 +5,6 @@ use Rattle.base.specs.Determined.{Answered}
 use Rattle.rows.proofs.Laws.{taken-apart}
 use Rattle.rows.proofs.kind_of.Kinds as kind-of-kinds
 use Rattle.rows.proofs.kind_of.Reads as kind-of-reads
-use Rattle.rows.proofs.code_of.Kinds as code-of-kinds
-use Rattle.rows.proofs.code_of.Reads as code-of-reads
 use Rattle.rows.proofs.shape_for.Kinds as shape-for-kinds
 use Rattle.rows.proofs.shape_for.Reads as shape-for-reads
 use Rattle.rows.proofs.is_good_row.Kinds as is-good-row-kinds
@@ -20,9 +18,6 @@ use Rattle.rows.proofs.take_row.Reads as take-row-reads
 
 pub kind-of-determined : Answered 0 kind-of-kinds.ps kind-of-kinds.r kind-of-reads.Post
 kind-of-determined κs a z z′ e e′ p q = p ∙ sym q
-
-pub code-of-determined : Answered 0 code-of-kinds.ps code-of-kinds.r code-of-reads.Post
-code-of-determined κs a z z′ e e′ p q = p ∙ sym q
 
 pub shape-for-determined : Answered 1 shape-for-kinds.ps shape-for-kinds.r shape-for-reads.Post
 shape-for-determined κs a z z′ e e′ p q = p ∙ sym q

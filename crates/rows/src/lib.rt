@@ -9,7 +9,7 @@ ghost use mathlib.Core.Bool.{cond};
 ghost use Rattle.tagset.specs.Sets.{holds};
 ghost use Rattle.catalogue.specs.Column.{shapeIn};
 ghost use Rattle.catalogue.specs.declared.Shape.{Shape};
-ghost use Rattle.rows.specs.Kinds.{kindIn, codeIn, markCode};
+ghost use Rattle.rows.specs.Kinds.{kindIn, markCode};
 ghost use Rattle.rows.specs.Taken.{rowGood, contentGood, partGood, codeGood, countGood, tagShown, rowAt, partOf, contentOf, rowTaken, rowTakenAt, takenSaid};
 use catalogue::Shape;
 use refusal::Reason;
@@ -39,20 +39,6 @@ pub fn kind_of(shape: Shape, code: u64) -> u64
             }
             1
         }
-    }
-}
-
-// The word for a code: 0 for text and carried.
-pub fn code_of(shape: Shape, code: u64) -> u64
-    ensures { λ r. ⌜ r ≡ codeIn shape code ⌝ }
-{
-    match shape {
-        Shape::Text => 0,
-        Shape::Absent => 0,
-        Shape::Number {
-            width: _,
-            marked: _,
-        } => code,
     }
 }
 

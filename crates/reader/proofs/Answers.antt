@@ -1,0 +1,100 @@
+-- What the reader answers and leaves, by the packet's check.
+-- Assumes nothing.
+use Prim.Native.Nat.{ℕ, _-_, _*_, _<_, _≤_}
+use mathlib.Core.Path.{_≡_, refl, ap, sym, _∙_}
+use mathlib.Core.Bool.{true, false}
+use mathlib.Core.List.{List}
+use lib.ListN.{length, replicate}
+use lib.Seq.{sets}
+use borrow.Author.Tests.{lt-ltb, le-ltb}
+use Rattle.refusal.specs.Answer.{Answer, given, refused}
+use Rattle.refusal.proofs.Laws.{refusal-apart}
+use Rattle.number.specs.Stored.{Bytes}
+use Rattle.tagset.specs.Sets.{holds}
+use Rattle.tagset.specs.declared.TagSet.{TagSet}
+use Rattle.knowing.specs.Good.{good}
+use Rattle.packet.specs.Pieces.{Item}
+use Rattle.packet.specs.Verdict.{counted, bodyOf, accepted, received, checked}
+use Rattle.packet.specs.Rows.{rowsOf, words, lentVerdict, readAnswer, tableBy, readTable}
+use Rattle.packet.specs.declared.Accepted.{Accepted}
+use Rattle.packet.proofs.Accepting.{unaccepted, Accepting, accepting, walk-few}
+use Rattle.reader.specs.Reads.{Reads, readSaid, Accepts, orNone, itemsOf}
+use Rattle.reader.specs.declared.Reading.{Reading}
+use Rattle.reader.specs.declared.Reading.the-variants.{Rows, Refused}
+use Rattle.reader.proofs.Laws.{table-is}
+
+-- a refusal that leaves the table as it was
+module _ (K : TagSet) (p t : List ℕ) where
+  by-verdict : (n a g : ℕ) → lentVerdict K p t ≡ refused n a g → (r : Reading) → readSaid r ≡ refused n a g → Reads K p t r t
+  unfolding readAnswer readTable
+  by-verdict n a g e r s = record { answer = s ∙ sym (ap counted e); table = sym (ap (tableBy (holds K) t) e) }
+
+  pub not-good : good K ≡ false → (r : Reading) → readSaid r ≡ refused 1 0 0 → Reads K p t r t
+  unfolding lentVerdict
+  not-good g r s = by-verdict 1 0 0 (rw g) r s
+
+  module _ (g : good K ≡ true) where
+    pub short-table : length t < 512 → (r : Reading) → readSaid r ≡ refused 2 0 0 → Reads K p t r t
+    unfolding lentVerdict
+    short-table h r s = by-verdict 2 0 0 (rw (g, lt-ltb (length t) 512 h)) r s
+
+    module _ (room : 512 ≤ length t) where
+      lent-received : lentVerdict K p t ≡ received K p
+      unfolding lentVerdict received
+      lent-received = rw (g, le-ltb (length t) 512 room)
+
+      unreceived : (n a b : ℕ) (v : Answer (List Item)) → accepted v ≡ refused n a b → v ≡ refused n a b
+      unreceived n a b (given is) e = unaccepted (sym e)
+      unreceived n a b (refused m c d) e = cc
+
+      pub refused-packet : (n a b : ℕ) → checked K p ≡ refused n a b → (r : Reading) → readSaid r ≡ refused n a b → Reads K p t r t
+      unfolding checked
+      refused-packet n a b e r s = by-verdict n a b (lent-received ∙ unreceived n a b (received K p) e) r s
+
+      -- an accepted packet
+      pub record Taken (b : Accepted) : Type 0 where
+        pub items : List Item
+        pub accepts : received K p ≡ given items
+        pub body : b ≡ bodyOf items
+
+      taken-from : (b : Accepted) (v : Answer (List Item)) → received K p ≡ v → accepted v ≡ given b → Taken b
+      taken-from b (given is) q e = record { items = is; accepts = q; body = cc }
+      taken-from b (refused n a c) q e = unaccepted e
+
+      pub taken : (b : Accepted) → checked K p ≡ given b → Taken b
+      unfolding checked
+      taken b e = taken-from b (received K p) refl e
+
+      module _ (by : Bytes p) (b : Accepted) (k : Taken b) where
+        pub few : b .count ≤ 128
+        few =
+            let a : Accepting K p (k .items) = accepting K p (k .items) by (k .accepts) in
+            rw (ap (λ x. x .count) (k .body)) (walk-few 128 _ _ (k .items) (a .fills))
+
+        pub may-fill : Accepts K p (b .from)
+        may-fill =
+            let a : Accepting K p (k .items) = accepting K p (k .items) by (k .accepts) in
+            record { items = k .items; accepted = k .accepts; walked = rw (ap (λ x. x .from) (k .body)) (a .fills) }
+
+        pub filled : (t′ t″ : List ℕ) → t′ ≡ sets t 0 (words (rowsOf (holds K) (itemsOf K p))) → t″ ≡ sets t′ (4 * b .count) (replicate (512 - 4 * b .count) 0)
+            → Reads K p t (Rows (record { count = b .count })) t″
+        unfolding readAnswer readTable
+        filled t′ t″ e f =
+            let v : lentVerdict K p t ≡ given (k .items) = lent-received ∙ k .accepts in
+            let n : b .count ≡ length (k .items) = ap (λ x. x .count) (k .body) in
+            let q : t′ ≡ sets t 0 (words (rowsOf (holds K) (k .items))) = e ∙ ap (λ w. sets t 0 (words (rowsOf (holds K) (orNone w)))) (k .accepts) in
+            record {
+              answer = ap given n ∙ sym (ap counted v);
+              table = f ∙ (ap (λ l. sets l (4 * b .count) (replicate (512 - 4 * b .count) 0)) q
+                  ∙ (ap (λ m. sets (sets t 0 (words (rowsOf (holds K) (k .items)))) (4 * m) (replicate (512 - 4 * m) 0)) n
+                  ∙ (table-is (holds K) (k .items) t (rw (← n) few) room
+                  ∙ sym (ap (tableBy (holds K) t) v))));
+            }
+
+pub read-apart : (a b : Reading) → readSaid a ≡ readSaid b → a ≡ b
+read-apart (Rows x) (Rows y) e =
+    let c : x .count ≡ y .count = cc in
+    λ i. Rows (record { count = c i })
+read-apart (Rows x) (Refused s) e = unaccepted (sym e)
+read-apart (Refused r) (Rows y) e = unaccepted e
+read-apart (Refused r) (Refused s) e = ap Refused (refusal-apart r s e)

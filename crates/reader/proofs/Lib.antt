@@ -1,0 +1,4 @@
+pub mod Laws
+pub mod Filling
+pub mod Answers
+pub mod Outcomes

@@ -1,0 +1,144 @@
+-- `reader::fill` meets its contract.
+-- Assumes nothing.
+use Prim.Native.Nat.{_-_, _≤_}
+use mathlib.Core.Path.{_≡_, refl, sym, ap, _∙_}
+use mathlib.Core.List.{List, []}
+use native.Mathlib.Omega.{arith}
+use borrow.Author.Needs.{needs}
+use lib.ListN.{length}
+use lib.Seq.{sets}
+use Rattle.refusal.specs.Answer.{given}
+use Rattle.tagset.specs.Sets.{holds}
+use Rattle.catalogue.specs.Column.{shapeColumn}
+use Rattle.tagset.specs.declared.TagSet.{TagSet}
+use Rattle.packet.specs.Pieces.{Item, pieces}
+use Rattle.packet.specs.Judge.{fine, judge}
+use Rattle.packet.specs.Headers.{headerAt, stepSaid}
+use Rattle.packet.specs.Rows.{rowsOf, words}
+use Rattle.packet.proofs.Walks.{Lies, header-lies}
+use Rattle.packet.proofs.Accepting.{Accepting, accepting, AllFit, fine-fit}
+use Rattle.reader.specs.Reads.{orNone, itemsOf, putRow}
+use Rattle.reader.proofs.Laws.{value-length}
+use Rattle.reader.proofs.Filling.{Left, none-left, one-left, not-refused, Next, next-item}
+use Rattle.reader.proofs.fill.Statement.{statement}
+use Rattle.reader.proofs.fill.Tie as tie
+
+abbrev Inv-loop : tie.InvT-loop
+Inv-loop packet from known table₀ column here₀ n₀ table here n =
+    (column ≡ shapeColumn) × (length table ≡ length table₀) × (length packet ≤ 8192)
+    × Left known packet here n table (sets table₀ 0 (words (rowsOf (holds known) (itemsOf known packet))))
+
+abbrev μ-loop : tie.MeasureT-loop
+μ-loop packet from known table₀ column here₀ n₀ table here n = length packet - here
+
+fits : (K : TagSet) (is : List Item) → judge (holds K) (pieces is) ≡ fine → AllFit (holds K) is
+unfolding judge
+fits K is e = fine-fit (holds K) [] is e
+
+-- the item found at the loop's place
+found : (c : tie.After-known-told Inv-loop μ-loop) → headerAt (c .before .before .before .before .before .before .before .before .before .args .packet .now) (c .before .before .before .before .before .loop .here) ≡ given (c .before .item .given .0 .0)
+found c = sym (c .before .before .before .item-at .ensures) ∙ ap stepSaid (c .before .item .given .1)
+
+next : (c : tie.After-known-told Inv-loop μ-loop) → Next _ _ _ _ _ _ (c .before .before .before .before .before .loop .inv .3) (c .before .before .before .before .loop-test .taken) (c .before .item .given .0 .0)
+next c = next-item _ _ _ _ _ _ (c .before .before .before .before .before .loop .inv .3) (c .before .before .before .before .loop-test .taken) _ (found c)
+
+lies : (c : tie.After-known-told Inv-loop μ-loop) → Lies (c .before .before .before .before .before .before .before .before .before .args .packet .now) (c .before .before .before .before .before .loop .here) (c .before .item .given .0 .0)
+lies c =
+    header-lies _ _ (record { byte = λ i. c .before .before .before .before .before .before .before .before .shared-slice-known .given i .fits }) _ (found c)
+
+shapes-requires : tie.Need-shapes-requires Inv-loop μ-loop
+shapes-requires c κs = search needs
+
+loop-holds : tie.Need-loop-holds Inv-loop μ-loop
+loop-holds c =
+    let s = c .before .before .before in
+    let a = s .pre .0 in
+    let k : Accepting (s .args .known) (s .args .packet .now) (a .items) = accepting _ _ _ (record { byte = λ i. c .before .before .shared-slice-known .given i .fits }) (a .accepted) in (
+      c .shapes .ensures,
+      refl,
+      k .short,
+      record {
+        rest = a .items;
+        walks = a .walked;
+        fits = fits (s .args .known) (a .items) (k .clean);
+        few = omega arith;
+        stored = ap (λ r. sets (s .args .table .now) 0 (words (rowsOf (holds (s .args .known)) (orNone r)))) (sym (a .accepted));
+      },
+    )
+
+item-at-requires : tie.Need-item-at-requires Inv-loop μ-loop
+item-at-requires c κs = search needs
+
+enum-told : tie.Need-enum-told Inv-loop μ-loop
+enum-told c = search needs
+
+same-length : tie.Need-same-length Inv-loop μ-loop
+same-length c = c .before .before .before .before .loop .inv .1
+
+returns : tie.Need-returns Inv-loop μ-loop
+returns c =
+    not-refused _ _ _ _ _ _ (c .before .before .before .before .loop .inv .3) (c .before .before .before .loop-test .taken) _ _ _
+    (sym (c .before .before .item-at .ensures) ∙ ap stepSaid (c .enum-told .given .1))
+
+enum-known-item : tie.Need-enum-known-item Inv-loop μ-loop
+enum-known-item c = search needs
+
+row-of-requires : tie.Need-row-of-requires Inv-loop μ-loop
+row-of-requires c κs =
+    let l = c .before .before .before .before .before .before .loop in
+    let d = lies (c .before) in (
+      l .inv .0,
+      d .inside,
+      l .inv .2,
+      next (c .before) .narrow
+          (value-length _ (record { byte = λ i. c .before .before .before .before .before .before .before .before .before .shared-slice-known .given i .fits }) (c .before .before .item .given .0 .0) (d .inside)),
+    )
+
+put-row-requires : tie.Need-put-row-requires Inv-loop μ-loop
+put-row-requires c κs =
+    let l = c .before .before .before .before .before .before .before .before .loop in
+    let few = one-left _ _ _ _ _ _ (l .inv .3) (c .before .before .before .before .before .before .before .loop-test .taken) in
+    (few, omega (arith, few, l .inv .1, c .before .before .before .before .before .before .before .before .before .before .before .before .pre .1))
+
+add-here : tie.Need-add-here Inv-loop μ-loop
+add-here c = omega (arith, lies (c .before .before .before .before .before .before .before) .inside, c .before .before .before .before .before .before .before .before .before .before .before .before .loop .inv .2)
+
+add-n : tie.Need-add-n Inv-loop μ-loop
+add-n c = omega (arith, one-left _ _ _ _ _ _ (c .before .before .before .before .before .before .before .before .before .before .before .before .loop .inv .3) (c .before .before .before .before .before .before .before .before .before .before .before .loop-test .taken))
+
+loop-less : tie.Need-loop-less Inv-loop μ-loop
+loop-less c = omega (arith, lies (c .before .before .before .before .before .before .before))
+
+loop-again : tie.Need-loop-again Inv-loop μ-loop
+loop-again c =
+    let l = c .before .before .before .before .before .before .before .before .before .before .before .before .loop in
+    let put = c .before .before .before .put-row in
+    (l .inv .0, put .kept .0 ∙ l .inv .1, l .inv .2, next (c .before .before .before .before .before .before .before) .left _ (put .ensures ∙ ap (putRow (l .table) (l .n)) (c .before .before .before .before .before .row-of .ensures)))
+
+same-length-2 : tie.Need-same-length-2 Inv-loop μ-loop
+same-length-2 c = c .before .loop .inv .1
+
+returns-2 : tie.Need-returns-2 Inv-loop μ-loop
+returns-2 c = none-left _ _ _ _ _ _ (c .before .loop .inv .3) (c .loop-test .left)
+
+pub fill-spec : {M : Type 1} → statement M
+fill-spec =
+    tie.close
+    (tie.spec
+    Inv-loop
+    μ-loop
+    shapes-requires
+    loop-holds
+    item-at-requires
+    enum-told
+    same-length
+    returns
+    enum-known-item
+    row-of-requires
+    put-row-requires
+    add-here
+    add-n
+    loop-less
+    loop-again
+    same-length-2
+    returns-2)
