@@ -37,6 +37,14 @@ pub bytes-append : (l m : List ℕ) → Bytes l → Bytes m → Bytes (l ++ m)
 bytes-append [] m x y = y
 bytes-append (a ∷ l) m x y = bytes-cons (x .byte 0) (bytes-append l m (bytes-tail x) y)
 
+pub bytes-left : (l m : List ℕ) → Bytes (l ++ m) → Bytes l
+bytes-left [] m by = bytes-none
+bytes-left (a ∷ l) m by = bytes-cons (by .byte 0) (bytes-left l m (bytes-tail by))
+
+pub bytes-right : (l m : List ℕ) → Bytes (l ++ m) → Bytes m
+bytes-right [] m by = by
+bytes-right (a ∷ l) m by = bytes-right l m (bytes-tail by)
+
 -- the value modulo 2 ^ 64 takes no more of the bytes before than that
 pub value-wraps : (h k : ℕ) (l : List ℕ) → h % 2 ^ 64 ≡ k % 2 ^ 64 → valueFrom h l % 2 ^ 64 ≡ valueFrom k l % 2 ^ 64
 unfolding valueFrom

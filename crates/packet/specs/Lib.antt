@@ -3,3 +3,5 @@ pub mod Structure
 pub mod Judge
 pub mod Verdict
 pub mod Rows
+pub mod Encode
+pub mod Allowed

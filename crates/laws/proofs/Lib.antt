@@ -1,0 +1,4 @@
+pub mod Items
+pub mod Structure
+pub mod Clean
+pub mod Accepted
