@@ -2,3 +2,5 @@ pub mod Items
 pub mod Structure
 pub mod Clean
 pub mod Accepted
+pub mod Receivers
+pub mod Tables

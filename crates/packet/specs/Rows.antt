@@ -1,19 +1,19 @@
 -- Document 01, Rows: "A row is four 64-bit words: tag; kind (1 reading, 2 mark, 3 text, 4 carried); the stored code as an
 -- unsigned number (0 for text and carried); place of the value × 65,536 + its length."
-use Prim.Native.Nat.{ℕ, _+_, _-_, _*_, _^_}
+use Prim.Native.Nat.{ℕ, _+_, _-_, _*_, _/_, _%_, _^_}
 use mathlib.Core.Bool.{cond, _&&_}
 use mathlib.Core.List.{List, [], _∷_, _++_}
-use lib.ListN.{length, drop, replicate}
+use lib.ListN.{length, getD, take, drop, replicate}
 use lib.Dec.{ltb, eqb}
 use Rattle.refusal.specs.Answer.{Answer, given, refused}
-use Rattle.number.specs.Stored.{valueOf}
+use Rattle.number.specs.Stored.{valueOf, bytesOf}
 use Rattle.tagset.specs.Sets.{holds}
 use Rattle.tagset.specs.declared.TagSet.{TagSet}
 use Rattle.knowing.specs.Good.{good}
 use Rattle.catalogue.specs.Shapes.{shapeOf}
 use Rattle.catalogue.specs.declared.Shape.{Shape}
 use Rattle.catalogue.specs.declared.Shape.the-variants.{Text, Number, Absent}
-use Rattle.packet.specs.Pieces.{Item}
+use Rattle.packet.specs.Pieces.{Piece, Item}
 use Rattle.packet.specs.Judge.{Knowing}
 use Rattle.packet.specs.Verdict.{verdict, counted}
 
@@ -77,3 +77,26 @@ tableBy K t (refused n p g) = t
 
 unfoldable pub readTable : TagSet → List ℕ → List ℕ → List ℕ
 readTable K p t = tableBy (holds K) t (lentVerdict K p t)
+
+-- the row at an index of a table
+abbrev pub rowIn : List ℕ → ℕ → Row
+rowIn t k =
+    record {
+      tag = getD t (4 * k) 0;
+      kind = getD t (4 * k + 1) 0;
+      code = getD t (4 * k + 2) 0;
+      spot = getD t (4 * k + 3) 0;
+    }
+
+-- the value that a row stands for: its code's bytes, or the bytes that it points at in a buffer
+abbrev pub valueIn : Shape → List ℕ → Row → List ℕ
+valueIn (Number width marked) b r = bytesOf width (r .code)
+valueIn Text b r = take (r .spot % 65536) (drop (r .spot / 65536) b)
+valueIn Absent b r = take (r .spot % 65536) (drop (r .spot / 65536) b)
+
+unfoldable pub pieceOf : Knowing → List ℕ → Row → Piece
+pieceOf K b r = record { tag = r .tag; value = valueIn (shapeFor K (r .tag)) b r }
+
+unfoldable pub piecesOf : Knowing → List ℕ → List Row → List Piece
+piecesOf K b [] = []
+piecesOf K b (r ∷ rs) = pieceOf K b r ∷ piecesOf K b rs
