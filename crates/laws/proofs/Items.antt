@@ -133,15 +133,15 @@ module _ (c : Piece) (form rest : List ℕ) where
   abbrev pub pieceBytes : List ℕ
   pieceBytes = tagBytes (c .tag) ++ (form ++ (c .value ++ rest))
 
-  piece-length : length pieceBytes ≡ headOf c form + length (c .value) + length rest
+  pub piece-length : length pieceBytes ≡ headOf c form + length (c .value) + length rest
   piece-length = simp length-append (omega arith)
 
-  after-head : drop (headOf c form) pieceBytes ≡ c .value ++ rest
+  pub after-head : drop (headOf c form) pieceBytes ≡ c .value ++ rest
   after-head =
       let e : pieceBytes ≡ (tagBytes (c .tag) ++ form) ++ (c .value ++ rest) = simp append-assoc in
       rw e (drop-at (tagBytes (c .tag) ++ form) (c .value ++ rest) _ (length-append (tagBytes (c .tag)) form))
 
-  after-piece : drop (headOf c form + length (c .value)) pieceBytes ≡ rest
+  pub after-piece : drop (headOf c form + length (c .value)) pieceBytes ≡ rest
   after-piece = rw (← (drop-drop (length (c .value)) (headOf c form) pieceBytes), after-head) (drop-at (c .value) rest _ refl)
 
   piece-read : 0 < c .tag → c .tag < 2097152 → LengthForm (length (c .value)) form

@@ -4,3 +4,5 @@ pub mod Clean
 pub mod Accepted
 pub mod Receivers
 pub mod Tables
+pub mod Written
+pub mod Forward

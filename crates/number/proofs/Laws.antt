@@ -8,6 +8,10 @@ use mathlib.Core.Path.{_≡_, refl, ap, _∙_}
 use mathlib.Core.List.{List, [], _∷_, _++_}
 use lib.ListN.{length, getD, take, drop}
 use lib.Seq.{getD-drop}
+use lib.Dec.{ltb}
+use mathlib.Core.Bool.{true}
+use borrow.Author.Tests.{ltb-true}
+use Rattle.base.specs.Every.{all, both-left, both-right}
 use lib.Arith.{digits-lt, digits-div, mod-mul}
 use Rattle.number.specs.Stored.{Bytes, valueFrom, valueOf, bytesOf}
 
@@ -36,6 +40,11 @@ bytes-take (suc n) (a ∷ l) by = bytes-cons (by .byte 0) (bytes-take n l (bytes
 pub bytes-append : (l m : List ℕ) → Bytes l → Bytes m → Bytes (l ++ m)
 bytes-append [] m x y = y
 bytes-append (a ∷ l) m x y = bytes-cons (x .byte 0) (bytes-append l m (bytes-tail x) y)
+
+-- tested
+pub bytes-all : (l : List ℕ) → all (λ a. ltb a 256) l ≡ true → Bytes l
+bytes-all [] e = bytes-none
+bytes-all (a ∷ l) e = bytes-cons (ltb-true a 256 (both-left (ltb a 256) _ e)) (bytes-all l (both-right (ltb a 256) _ e))
 
 pub bytes-left : (l m : List ℕ) → Bytes (l ++ m) → Bytes l
 bytes-left [] m by = bytes-none
