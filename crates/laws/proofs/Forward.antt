@@ -23,7 +23,7 @@ use Rattle.packet.specs.Verdict.{placed, verdict, received}
 use Rattle.packet.specs.Encode.{itemBytes, itemsBytes, encode, canonical}
 use Rattle.packet.specs.Allowed.{ItemsOf, noMore, another, Formed}
 use Rattle.laws.proofs.Items.{piece-length}
-use Rattle.laws.proofs.Structure.{structure-formed, length-key}
+use Rattle.laws.proofs.Structure.{passed, structure-formed, formed-length}
 use Rattle.laws.proofs.Accepted.{accepts}
 use Rattle.laws.proofs.Written.{length-item, length-pieces, Tagged, sumPiece, SameBut, judged-alike, Sendable, length-encode, ReadBack, read-back}
 
@@ -62,20 +62,17 @@ module _ (p : List ℕ) (is : List Item) (by : Bytes p) (f : Formed p is) where
   body-bytes : Bytes (f .form ++ f .body)
   body-bytes = bytes-right key _ (rw (f .whole) at by)
 
-  length-whole : length p ≡ 16 + length (f .form) + length (f .body)
-  length-whole = ap length (f .whole) ∙ simp (length-append, length-key) (omega arith)
-
   encode-shorter : length (encode (pieces is)) ≤ length p
   encode-shorter =
       let n : ℕ = length (itemsBytes (pieces is)) in
       let k : n ≤ length (f .body) = items-shorter (f .items) (bytes-right (f .form) _ body-bytes) in
       omega (
         arith,
-        length-whole,
+        formed-length p is f,
         length-encode (pieces is),
         f .small,
         form-shortest (f .outer) (bytes-left (f .form) _ body-bytes),
-        length-mono n (length (f .body)) k (omega (arith, length-whole, f .small)),
+        length-mono n (length (f .body)) k (omega (arith, formed-length p is f, f .small)),
       )
 
   pub sendable : Sendable (pieces is)
@@ -128,7 +125,7 @@ module _ (p : List ℕ) (is : List Item) (by : Bytes p) (e : structure p ≡ giv
   unfolding canonical
   canonical-twice = rw (e, canonical-back .read) (canonical-back .again)
 
--- a packet that some receiver accepts
+-- a packet that some receiver accepts, whoever it is
 module _ (K : Knowing) (p : List ℕ) (is : List Item) (by : Bytes p) (e : verdict K p ≡ given is) where
   pub forward-shorter : length (canonical p) ≤ length p
   forward-shorter = canonical-shorter p is by (accepts K p is e .found)
@@ -138,3 +135,10 @@ module _ (K : Knowing) (p : List ℕ) (is : List Item) (by : Bytes p) (e : verdi
 
   pub forward-twice : canonical (canonical p) ≡ canonical p
   forward-twice = canonical-twice p is by (accepts K p is e .found)
+
+-- the same over knowing sets of words, good or not
+pub received-alike : (K K′ : TagSet) (p : List ℕ) (is : List Item) → Bytes p → received K p ≡ given is → Alike (received K′ p) (received K′ (canonical p))
+unfolding received
+received-alike K K′ p is by e =
+    let g = passed (good K) (verdict (holds K) p) 1 0 0 e in
+    byBool (good K′) (λ g′. rw g′ (forward-alike (holds K) p is by (g .1) (holds K′))) (λ g′. rw g′ bothRefused)

@@ -6,3 +6,4 @@ pub mod Receivers
 pub mod Tables
 pub mod Written
 pub mod Forward
+pub mod Sent

@@ -51,11 +51,11 @@ last-after i [] z = refl
 last-after i (j ∷ front) z = last-after j front z
 
 -- a test that was passed on the way to what is given
-passed : {A : Type 0} (b : Bool) (x : Answer A) (n p t : ℕ) {y : A} → cond b x (refused n p t) ≡ given y → (b ≡ true) × (x ≡ given y)
+pub passed : {A : Type 0} (b : Bool) (x : Answer A) (n p t : ℕ) {y : A} → cond b x (refused n p t) ≡ given y → (b ≡ true) × (x ≡ given y)
 passed true x n p t e = (refl, e)
 passed false x n p t e = never (cc)
 
-missed : {A : Type 0} (b : Bool) (x : Answer A) (n p t : ℕ) {y : A} → cond b (refused n p t) x ≡ given y → (b ≡ false) × (x ≡ given y)
+pub missed : {A : Type 0} (b : Bool) (x : Answer A) (n p t : ℕ) {y : A} → cond b (refused n p t) x ≡ given y → (b ≡ false) × (x ≡ given y)
 missed true x n p t e = never (cc)
 missed false x n p t e = (refl, e)
 
@@ -127,22 +127,26 @@ module _ (p : List ℕ) (is : List Item) (f : Formed p is) where
       let ez : z ≡ f .last = ap (lastOf (f .first)) (sym (f .begins) ∙ f .closes) ∙ last-after (f .first) (f .front) (f .last) in
       rw (f .begins, eq-eqb _ _ (f .time), ez, eq-eqb _ _ (f .checksum), eq-eqb _ _ (f .pair), eq-eqb _ _ (f .sum))
 
+  pub formed-length : length p ≡ 16 + length (f .form) + length (f .body)
+  formed-length = ap length (f .whole) ∙ simp (length-append, length-key) (omega arith)
+
+  after-key : drop 16 p ≡ f .form ++ f .body
+  after-key = ap (drop 16) (f .whole) ∙ drop-at key (f .form ++ f .body) 16 length-key
+
+  pub formed-body : drop (16 + length (f .form)) p ≡ f .body
+  formed-body = rw (← (drop-drop (length (f .form)) 16 p), after-key) (drop-at (f .form) (f .body) _ refl)
+
   pub formed-structure : structure p ≡ given is
   unfolding structure afterOuter
   formed-structure =
-      let rest : List ℕ = f .form ++ f .body in
-      let e1 : take 16 p ≡ key = ap (take 16) (f .whole) ∙ take-at key rest 16 length-key in
-      let e2 : drop 16 p ≡ rest = ap (drop 16) (f .whole) ∙ drop-at key rest 16 length-key in
-      let e3 : length p ≡ 16 + length (f .form) + length (f .body) = ap length (f .whole) ∙ simp (length-append, length-key) (omega arith) in
-      let e4 : drop (16 + length (f .form)) p ≡ f .body =
-      sym (drop-drop (length (f .form)) 16 p) ∙ (ap (drop (length (f .form))) e2 ∙ drop-at (f .form) (f .body) _ refl) in
+      let keyed : take 16 p ≡ key = ap (take 16) (f .whole) ∙ take-at key (f .form ++ f .body) 16 length-key in
       rw (
         le-ltb 8192 (length p) (f .small),
-        e1,
+        keyed,
         same-self key,
-        e2,
+        after-key,
         form-read (f .outer) (f .body),
-        eq-eqb _ _ e3,
-        e4,
+        eq-eqb _ _ formed-length,
+        formed-body,
         items-walk (f .items) (f .few),
       ) ends-formed

@@ -64,7 +64,7 @@ module _ (K : TagSet) (p t : List ℕ) (g : good K ≡ true) (long : 512 ≤ len
   row-read is e k h = rw (lent-received, e) (row-in (holds K) is _ k h)
 
 -- what was counted
-given-count : (a : Answer (List Item)) (n : ℕ) → counted a ≡ given n → (is : List Item) × (a ≡ given is) × (length is ≡ n)
+pub given-count : (a : Answer (List Item)) (n : ℕ) → counted a ≡ given n → (is : List Item) × (a ≡ given is) × (length is ≡ n)
 given-count (given is) n e = (is, refl, cc)
 given-count (refused m p t) n e = never (cc)
 

@@ -1,6 +1,7 @@
 -- Document 01, Rows: "A row is four 64-bit words: tag; kind (1 reading, 2 mark, 3 text, 4 carried); the stored code as an
 -- unsigned number (0 for text and carried); place of the value × 65,536 + its length."
-use Prim.Native.Nat.{ℕ, _+_, _-_, _*_, _/_, _%_, _^_}
+use Prim.Native.Nat.{ℕ, zero, suc, _+_, _-_, _*_, _/_, _%_, _^_, _<_}
+use mathlib.Core.Path.{_≡_}
 use mathlib.Core.Bool.{cond, _&&_}
 use mathlib.Core.List.{List, [], _∷_, _++_}
 use lib.ListN.{length, getD, take, drop, replicate}
@@ -88,11 +89,23 @@ rowIn t k =
       spot = getD t (4 * k + 3) 0;
     }
 
--- the value that a row stands for: its code's bytes, or the bytes that it points at in a buffer
+-- the first n rows of a table
+unfoldable pub rowsIn : ℕ → List ℕ → List Row
+rowsIn zero t = []
+rowsIn (suc n) t = rowIn t 0 ∷ rowsIn n (drop 4 t)
+
+-- the length of a row's value, and the bytes that the row points at in a buffer
+abbrev pub sizeOf : Row → ℕ
+sizeOf r = r .spot % 65536
+
+abbrev pub bytesAt : List ℕ → Row → List ℕ
+bytesAt b r = take (sizeOf r) (drop (r .spot / 65536) b)
+
+-- the value that a row stands for: its code's bytes, or those that it points at
 abbrev pub valueIn : Shape → List ℕ → Row → List ℕ
 valueIn (Number width marked) b r = bytesOf width (r .code)
-valueIn Text b r = take (r .spot % 65536) (drop (r .spot / 65536) b)
-valueIn Absent b r = take (r .spot % 65536) (drop (r .spot / 65536) b)
+valueIn Text b r = bytesAt b r
+valueIn Absent b r = bytesAt b r
 
 unfoldable pub pieceOf : Knowing → List ℕ → Row → Piece
 pieceOf K b r = record { tag = r .tag; value = valueIn (shapeFor K (r .tag)) b r }
@@ -100,3 +113,16 @@ pieceOf K b r = record { tag = r .tag; value = valueIn (shapeFor K (r .tag)) b r
 unfoldable pub piecesOf : Knowing → List ℕ → List Row → List Piece
 piecesOf K b [] = []
 piecesOf K b (r ∷ rs) = pieceOf K b r ∷ piecesOf K b rs
+
+-- "“The same table” means the same count, tags, kinds, codes and lengths, and for text and carried rows the same value bytes;
+-- places and the checksum's code are left aside." b and c are the buffers that the rows point into.
+pub record SameRow (b c : List ℕ) (r s : Row) : Type 0 where
+  pub tag : r .tag ≡ s .tag
+  pub kind : r .kind ≡ s .kind
+  pub code : (r .tag ≡ 1 → ⊥) → r .code ≡ s .code
+  pub size : sizeOf r ≡ sizeOf s
+  pub value : 2 < r .kind → bytesAt b r ≡ bytesAt c s
+
+pub data SameTable (b c : List ℕ) : List Row → List Row → Type 0 where
+  noRows : SameTable b c [] []
+  oneMore : {r s : Row} {rs ss : List Row} → SameRow b c r s → SameTable b c rs ss → SameTable b c (r ∷ rs) (s ∷ ss)
