@@ -7,3 +7,4 @@ pub mod Tables
 pub mod Written
 pub mod Forward
 pub mod Sent
+pub mod Readings

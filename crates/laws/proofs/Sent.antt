@@ -15,7 +15,7 @@ use Rattle.base.specs.Cases.{byBool}
 use Rattle.base.specs.Every.{Each}
 use Rattle.refusal.specs.Answer.{given}
 use Rattle.number.specs.Stored.{Bytes, valueOf, bytesOf}
-use Rattle.number.proofs.Laws.{bytes-left, bytes-right, bytes-drop, spelled}
+use Rattle.number.proofs.Laws.{bytes-drop, bytes-take, spelled}
 use Rattle.ber.specs.Written.{tagBytes}
 use Rattle.catalogue.specs.Shapes.{shapeOf, shapeAllows, lengthAllowed}
 use Rattle.catalogue.specs.declared.Shape.{Shape}
@@ -35,44 +35,40 @@ use Rattle.laws.proofs.Structure.{passed, missed, structure-formed, for
 use Rattle.laws.proofs.Clean.{fine-clean}
 use Rattle.laws.proofs.Accepted.{accepts}
 use Rattle.laws.proofs.Tables.{given-count}
-use Rattle.laws.proofs.Written.{length-pieces}
 use Rattle.laws.proofs.Forward.{canonical-is}
 
 -- an item lies in the packet where it says
-record Lies (p : List ℕ) (i : Item) : Type 0 where
-  there : i .piece .value ≡ take (length (i .piece .value)) (drop (i .place) p)
-  short : length (i .piece .value) < 65536
-  bytes : Bytes (i .piece .value)
+pub record Lies (p : List ℕ) (i : Item) : Type 0 where
+  pub there : i .piece .value ≡ take (length (i .piece .value)) (drop (i .place) p)
+  pub short : length (i .piece .value) < 65536
 
-items-lie : (p : List ℕ) {at : ℕ} {l : List ℕ} {is : List Item} → ItemsOf at l is → l ≡ drop at p → Bytes l → length l < 65536 → Each (Lies p) is
-items-lie p noMore e by k = tt
-items-lie p (another {at} c form rest some small f i) e by k =
+items-lie : (p : List ℕ) {at : ℕ} {l : List ℕ} {is : List Item} → ItemsOf at l is → l ≡ drop at p → length l < 65536 → Each (Lies p) is
+items-lie p noMore e k = tt
+items-lie p (another {at} c form rest some small f i) e k =
     let size = piece-length c form rest in
-    let after : List ℕ = c .value ++ rest in
-    let by′ : Bytes after = bytes-right form after (bytes-right (tagBytes (c .tag)) _ by) in
-    let ev : drop (at + headOf c form) p ≡ after = sym (drop-drop (headOf c form) at p) ∙ (ap (drop (headOf c form)) (sym e) ∙ after-head c form rest) in
-    let er : rest ≡ drop (at + (headOf c form + length (c .value))) p =
-    sym (sym (drop-drop (headOf c form + length (c .value)) at p) ∙ (ap (drop (headOf c form + length (c .value))) (sym e) ∙ after-piece c form rest)) in
-    (record {
-      there = sym (ap (take (length (c .value))) ev ∙ take-at (c .value) rest _ refl);
-      short = omega arith;
-      bytes = bytes-left (c .value) rest by′;
-    }, items-lie p i er (bytes-right (c .value) rest by′) (omega arith))
+    let dropped : (n : ℕ) → drop (at + n) p ≡ drop n (pieceBytes c form rest) = λ n. sym (drop-drop n at p) ∙ ap (drop n) (sym e) in (
+      record {
+        there = sym (ap (take (length (c .value))) (dropped (headOf c form) ∙ after-head c form rest) ∙ take-at (c .value) rest _ refl);
+        short = omega arith;
+      },
+      items-lie p i (sym (dropped (headOf c form + length (c .value)) ∙ after-piece c form rest)) (omega arith),
+    )
 
 -- all items of a packet do
-formed-lie : (p : List ℕ) (is : List Item) → Bytes p → Formed p is → Each (Lies p) is
-formed-lie p is by f =
-    let e = formed-body p is f in
-    items-lie p (f .items) (sym e) (rw e at (bytes-drop (16 + length (f .form)) by)) (omega (arith, formed-length p is f, f .small))
+pub formed-lie : (p : List ℕ) (is : List Item) → Formed p is → Each (Lies p) is
+formed-lie p is f = items-lie p (f .items) (sym (formed-body p is f)) (omega (arith, formed-length p is f, f .small))
 
 -- the bytes that an item's row points at are its value
-bytes-back : (K : Knowing) (p : List ℕ) (i : Item) → Lies p i → bytesAt p (rowOf K i) ≡ i .piece .value
+pub bytes-back : (K : Knowing) (p : List ℕ) (i : Item) → Lies p i → bytesAt p (rowOf K i) ≡ i .piece .value
 unfolding rowOf
 bytes-back K p i l = rw (digits-mod (i .place) (l .short), digits-div (i .place) (l .short)) (sym (l .there))
 
+-- the length is allowed where the tag is known
+abbrev pub SizedFor : Knowing → Piece → Type 0
+SizedFor K c = K (c .tag) ≡ true → lengthAllowed (c .tag) (length (c .value)) ≡ true
+
 -- a known number has its width
-number-width : (K : Knowing) (c : Piece) (width : ℕ) (marked : Bool)
-    → (K (c .tag) ≡ true → lengthAllowed (c .tag) (length (c .value)) ≡ true) → shapeFor K (c .tag) ≡ Number width marked → length (c .value) ≡ width
+number-width : (K : Knowing) (c : Piece) (width : ℕ) (marked : Bool) → SizedFor K c → shapeFor K (c .tag) ≡ Number width marked → length (c .value) ≡ width
 unfolding shapeFor lengthAllowed
 number-width K c width marked sized e =
     byBool (K (c .tag))
@@ -83,40 +79,47 @@ number-width K c width marked sized e =
     (λ k. let f : Absent ≡ Number width marked = rw k at e in never (cc))
 
 -- a row's piece is the item's
-piece-back : (K : Knowing) (p : List ℕ) (i : Item) → Lies p i → (K (i .piece .tag) ≡ true → lengthAllowed (i .piece .tag) (length (i .piece .value)) ≡ true)
-    → pieceOf K p (rowOf K i) ≡ i .piece
+pub piece-back : (K : Knowing) (p : List ℕ) (i : Item) → Bytes p → Lies p i → SizedFor K (i .piece) → pieceOf K p (rowOf K i) ≡ i .piece
 unfolding pieceOf rowOf
-piece-back K p i l sized = ap (λ v. record { tag = i .piece .tag; value = v }) (back (shapeFor K (i .piece .tag)) refl)
+piece-back K p i by l sized = ap (λ v. record { tag = i .piece .tag; value = v }) (back (shapeFor K (i .piece .tag)) refl)
   where
+    bytes : Bytes (i .piece .value)
+    bytes = rw (l .there) (bytes-take (length (i .piece .value)) (drop (i .place) p) (bytes-drop (i .place) by))
+
     back : (s : Shape) → shapeFor K (i .piece .tag) ≡ s → valueIn s p (rowOf K i) ≡ i .piece .value
     back (Number width marked) e =
-        rw e (spelled (i .piece .value) width (valueOf (i .piece .value)) (l .bytes) (number-width K (i .piece) width marked sized e) refl)
+        rw e (spelled (i .piece .value) width (valueOf (i .piece .value)) bytes (number-width K (i .piece) width marked sized e) refl)
     back Text e = bytes-back K p i l
     back Absent e = bytes-back K p i l
 
-pieces-back : (K : Knowing) (p : List ℕ) (is : List Item) → Each (Lies p) is
-    → ((k : ℕ) → k < length is → K (pieceAt (pieces is) k .tag) ≡ true → lengthAllowed (pieceAt (pieces is) k .tag) (length (pieceAt (pieces is) k .value)) ≡ true)
+pieces-back : (K : Knowing) (p : List ℕ) (is : List Item) → Bytes p → Each (Lies p) is → Each (SizedFor K) (pieces is)
     → piecesOf K p (rowsOf K is) ≡ pieces is
 unfolding piecesOf rowsOf
-pieces-back K p [] l sized = refl
-pieces-back K p (i ∷ is) l sized =
-    rw (piece-back K p i (l .0) (sized 0 (omega arith)), pieces-back K p is (l .1) (λ k h. sized (suc k) (omega arith)))
+pieces-back K p [] by l s = refl
+pieces-back K p (i ∷ is) by l s = rw (piece-back K p i by (l .0) (s .0), pieces-back K p is by (l .1) (s .1))
+
+each-sized : (K : Knowing) (cs : List Piece) → ((k : ℕ) → k < length cs → SizedFor K (pieceAt cs k)) → Each (SizedFor K) cs
+each-sized K [] s = tt
+each-sized K (c ∷ cs) s = (s 0 (omega arith), each-sized K cs (λ k h. s (suc k) (omega arith)))
 
 -- a packet that a receiver accepts
 module _ (K : Knowing) (p : List ℕ) (is : List Item) (by : Bytes p) (e : verdict K p ≡ given is) where
+  pub accepted-sized : Each (SizedFor K) (pieces is)
+  accepted-sized = each-sized K (pieces is) (fine-clean K (pieces is) (accepts K p is e .faultless) .sized)
+
+  pub accepted-lie : Each (Lies p) is
+  accepted-lie = formed-lie p is (structure-formed p is by (accepts K p is e .found))
+
   -- its rows, turned into pieces again, are its pieces
   pub rows-pieces : piecesOf K p (rowsOf K is) ≡ pieces is
-  rows-pieces =
-      let a = accepts K p is e in
-      pieces-back K p is (formed-lie p is by (structure-formed p is by (a .found)))
-      (λ k h. fine-clean K (pieces is) (a .faultless) .sized k (rw length-pieces h))
+  rows-pieces = pieces-back K p is by accepted-lie accepted-sized
 
   -- so sending on gives the same bytes, whoever sends
   pub sent-on : encode (piecesOf K p (rowsOf K is)) ≡ canonical p
   sent-on = rw (rows-pieces, canonical-is p is by (accepts K p is e .found))
 
 -- a receiver with a good set and a table of at least 512 words
-table-rows : (K : Knowing) (is : List Item) (rest : List ℕ) → rowsIn (length is) (words (rowsOf K is) ++ rest) ≡ rowsOf K is
+pub table-rows : (K : Knowing) (is : List Item) (rest : List ℕ) → rowsIn (length is) (words (rowsOf K is) ++ rest) ≡ rowsOf K is
 unfolding words rowsOf rowsIn
 table-rows K [] rest = refl
 table-rows K (i ∷ is) rest = ap (λ rs. rowOf K i ∷ rs) (table-rows K is rest)

@@ -51,7 +51,7 @@ row-in K (i ∷ is) rest (suc k) h =
 
 -- a receiver with a good set and a table of at least 512 words answers as one that is lent none
 module _ (K : TagSet) (p t : List ℕ) (g : good K ≡ true) (long : 512 ≤ length t) where
-  lent-received : lentVerdict K p t ≡ received K p
+  pub lent-received : lentVerdict K p t ≡ received K p
   unfolding lentVerdict received
   lent-received = rw (g, le-ltb (length t) 512 long)
 

@@ -169,6 +169,7 @@ module _ (cs : List Piece) where
 -- what is read of pieces that were written
 pub record ReadBack (cs : List Piece) : Type 0 where
   pub items : List Item
+  pub formed : Formed (encode cs) items
   pub read : structure (encode cs) ≡ given items
   pub same : SameBut cs (pieces items)
   pub again : encode (pieces items) ≡ encode cs
@@ -237,6 +238,7 @@ module _ (cs : List Piece) (s : Sendable cs) where
   read-back =
       record {
         items = itemsAt (bodyAt found) found;
+        formed = rw found-written found-formed;
         read = ap structure found-written ∙ formed-structure _ _ found-formed;
         same = rw (pieces-at (bodyAt found) found) found-same;
         again = ap encode (pieces-at (bodyAt found) found) ∙ (encode-last front (newSum front) (pair-new front) ∙ sym found-written);

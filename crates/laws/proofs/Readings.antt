@@ -1,0 +1,134 @@
+-- Who reads what was written or sent on reads the same table: the same count, tags, kinds, codes, lengths and value bytes, places and the
+-- checksum's code aside.
+-- Assumes nothing.
+use Prim.Native.Nat.{ℕ, _-_, _*_, _^_, _<_, _≤_}
+use native.Mathlib.Omega.{arith}
+use mathlib.Core.Path.{_≡_, refl, ap, sym, _∙_}
+use mathlib.Core.Bool.{Bool, true, false, cond, _&&_}
+use mathlib.Core.List.{List, [], _∷_}
+use lib.ListN.{length}
+use lib.Dec.{eqb}
+use lib.Arith.{digits-mod}
+use Rattle.base.specs.Cases.{byBool}
+use Rattle.base.specs.Every.{Each}
+use Rattle.refusal.specs.Answer.{given}
+use Rattle.number.specs.Stored.{Bytes, valueOf, bytesOf}
+use Rattle.catalogue.specs.Items.{groups, member, itemIn, itemOf}
+use Rattle.catalogue.specs.Shapes.{shapeOf}
+use Rattle.catalogue.specs.declared.Shape.{Shape}
+use Rattle.catalogue.specs.declared.Shape.the-variants.{Text, Number, Absent}
+use Rattle.packet.specs.Pieces.{Piece, Item, pieces}
+use Rattle.packet.specs.Judge.{Knowing, fine, judge}
+use Rattle.packet.specs.Verdict.{verdict}
+use Rattle.packet.specs.Encode.{encode, canonical}
+use Rattle.packet.specs.Rows.{shapeFor, kindIn, codeIn, Row, rowOf, rowsOf, sizeOf, bytesAt, valueIn, pieceOf, piecesOf, SameRow, SameTable, noRows, oneMore}
+use Rattle.laws.proofs.Items.{never}
+use Rattle.laws.proofs.Accepted.{accepts}
+use Rattle.laws.proofs.Written.{sumPiece, SameBut, atLast, further, Sendable, ReadBack, read-back, written-accepted}
+use Rattle.laws.proofs.Forward.{canonical-is, canonical-back}
+use Rattle.laws.proofs.Sent.{Lies, formed-lie, bytes-back, SizedFor, piece-back, accepted-sized, accepted-lie, rows-pieces}
+
+-- a row as a receiver gives it to the piece that it stands for; the checksum's code is any
+pub record Made (K : Knowing) (b : List ℕ) (r : Row) : Type 0 where
+  pub kind : r .kind ≡ kindIn (shapeFor K (r .tag)) (valueOf (pieceOf K b r .value))
+  pub code : (r .tag ≡ 1 → ⊥) → r .code ≡ codeIn (shapeFor K (r .tag)) (valueOf (pieceOf K b r .value))
+  pub size : sizeOf r ≡ length (pieceOf K b r .value)
+
+-- a number's row points at nothing
+no-place : (width : ℕ) (marked : Bool) (code : ℕ) → 2 < kindIn (Number width marked) code → ⊥
+no-place width marked code h =
+    byBool (marked && eqb code (2 ^ (8 * width - 1)))
+    (λ e. let z : 2 < 2 = rw e at h in omega arith)
+    (λ e. let z : 2 < 1 = rw e at h in omega arith)
+
+module _ (K : Knowing) (b q : List ℕ) where
+  row-size : (j : Item) → Lies q j → sizeOf (rowOf K j) ≡ length (j .piece .value)
+  unfolding rowOf
+  row-size j l = digits-mod (j .place) (l .short)
+
+  -- a row and the row of its piece, wherever that is read
+  same-row : (r : Row) (j : Item) → Made K b r → Lies q j → pieceOf K b r ≡ j .piece → SameRow b q r (rowOf K j)
+  unfolding rowOf pieceOf
+  same-row r j m l e =
+      record {
+        tag = ap (λ (c : Piece). c .tag) e;
+        kind = m .kind ∙ ap (λ (c : Piece). kindIn (shapeFor K (c .tag)) (valueOf (c .value))) e;
+        code = λ other. m .code other ∙ ap (λ (c : Piece). codeIn (shapeFor K (c .tag)) (valueOf (c .value))) e;
+        size = m .size ∙ (ap (λ (c : Piece). length (c .value)) e ∙ sym (row-size j l));
+        value = λ h. pointed (shapeFor K (r .tag)) refl h ∙ (ap (λ (c : Piece). c .value) e ∙ sym (bytes-back K q j l));
+      }
+    where
+      pointed : (s : Shape) → shapeFor K (r .tag) ≡ s → 2 < r .kind → bytesAt b r ≡ pieceOf K b r .value
+      pointed (Number width marked) f h = absurd (no-place width marked (valueOf (bytesOf width (r .code))) (rw (m .kind, f) at h))
+      pointed Text f h = rw f
+      pointed Absent f h = rw f
+
+  -- the checksum's row
+  sum-row : (r : Row) (j : Item) (v w : List ℕ) → K 1 ≡ true → Made K b r → Lies q j → length v ≡ length w
+      → pieceOf K b r ≡ sumPiece v → j .piece ≡ sumPiece w → SameRow b q r (rowOf K j)
+  unfolding pieceOf rowOf shapeFor shapeOf itemOf itemIn groups member
+  sum-row r j v w k m l e f g =
+      let one : r .tag ≡ 1 = ap (λ (c : Piece). c .tag) f in
+      let one′ : j .piece .tag ≡ 1 = ap (λ (c : Piece). c .tag) g in
+      let reading : r .kind ≡ 1 = m .kind ∙ rw (one, k) in
+      record {
+        tag = one ∙ sym one′;
+        kind = reading ∙ rw (one′, k);
+        code = λ other. absurd (other one);
+        size = m .size ∙ (ap (λ (c : Piece). length (c .value)) f ∙ (e ∙ (sym (ap (λ (c : Piece). length (c .value)) g) ∙ sym (row-size j l))));
+        value = λ h. absurd (omega arith);
+      }
+
+  -- rows, and the rows of their pieces, the checksum's value aside
+  pub same-table : K 1 ≡ true → {cs ds : List Piece} → SameBut cs ds → (rs : List Row) (js : List Item) → piecesOf K b rs ≡ cs → pieces js ≡ ds
+      → Each (Made K b) rs → Each (Lies q) js → SameTable b q rs (rowsOf K js)
+  unfolding piecesOf rowsOf
+  same-table k (atLast e) [] js f g m l = never (cc)
+  same-table k (atLast e) (r ∷ s ∷ rs) js f g m l = never (cc)
+  same-table k (atLast e) (r ∷ []) [] f g m l = never (cc)
+  same-table k (atLast e) (r ∷ []) (j ∷ i ∷ js) f g m l = never (cc)
+  same-table k (atLast {v} {w} e) (r ∷ []) (j ∷ []) f g m l = oneMore (sum-row r j v w k (m .0) (l .0) e (cc) (cc)) noRows
+  same-table k (further s) [] js f g m l = never (cc)
+  same-table k (further s) (r ∷ rs) [] f g m l = never (cc)
+  same-table k (further s) (r ∷ rs) (j ∷ js) f g m l = oneMore (same-row r j (m .0) (l .0) (cc)) (same-table k s rs js (cc) (cc) (m .1) (l .1))
+
+-- rows that a receiver writes, and itself reads back
+module _ (K : Knowing) (b : List ℕ) (rs : List Row) (k : K 1 ≡ true) (m : Each (Made K b) rs) (s : Sendable (piecesOf K b rs))
+    (e : judge K (piecesOf K b rs) ≡ fine) where
+  back : ReadBack (piecesOf K b rs)
+  back = read-back (piecesOf K b rs) s
+
+  -- what was written is accepted, and gives the same table
+  pub written-table : (is : List Item) × (verdict K (encode (piecesOf K b rs)) ≡ given is) × SameTable b (encode (piecesOf K b rs)) rs (rowsOf K is)
+  unfolding back
+  written-table = (
+    back .items,
+    written-accepted (piecesOf K b rs) s K e,
+    same-table K b (encode (piecesOf K b rs)) k (back .same) rs (back .items) refl refl m (formed-lie _ (back .items) (back .formed)),
+  )
+
+-- the rows of an accepted packet are made so
+made-row : (K : Knowing) (p : List ℕ) (i : Item) → Bytes p → Lies p i → SizedFor K (i .piece) → Made K p (rowOf K i)
+unfolding rowOf
+made-row K p i by l s =
+    let e = piece-back K p i by l s in
+    record {
+      kind = ap (λ (c : Piece). kindIn (shapeFor K (i .piece .tag)) (valueOf (c .value))) (sym e);
+      code = λ other. ap (λ (c : Piece). codeIn (shapeFor K (i .piece .tag)) (valueOf (c .value))) (sym e);
+      size = row-size K p p i l ∙ ap (λ (c : Piece). length (c .value)) (sym e);
+    }
+
+made-rows : (K : Knowing) (p : List ℕ) (is : List Item) → Bytes p → Each (Lies p) is → Each (SizedFor K) (pieces is) → Each (Made K p) (rowsOf K is)
+unfolding rowsOf
+made-rows K p [] by l s = tt
+made-rows K p (i ∷ is) by l s = (made-row K p i by (l .0) (s .0), made-rows K p is by (l .1) (s .1))
+
+-- what is sent on gives the same table as the packet
+pub forward-table : (K : Knowing) (p : List ℕ) (is : List Item) (by : Bytes p) (e : verdict K p ≡ given is) → K 1 ≡ true
+    → SameTable p (canonical p) (rowsOf K is) (rowsOf K (canonical-back p is by (accepts K p is e .found) .items))
+forward-table K p is by e k =
+    let f = accepts K p is e .found in
+    let back = canonical-back p is by f in
+    rw (canonical-is p is by f)
+    (same-table K p (encode (pieces is)) k (back .same) (rowsOf K is) (back .items) (rows-pieces K p is by e) refl
+    (made-rows K p is by (accepted-lie K p is by e) (accepted-sized K p is by e)) (formed-lie _ (back .items) (back .formed)))
