@@ -33,7 +33,7 @@ items-tagged noMore = tt
 items-tagged (another c form rest some small f i) = (record { some = some; small = small }, items-tagged i)
 
 -- and takes no more bytes then
-items-shorter : {at : ℕ} {l : List ℕ} {is : List Item} → ItemsOf at l is → Bytes l → length (itemsBytes (pieces is)) ≤ length l
+pub items-shorter : {at : ℕ} {l : List ℕ} {is : List Item} → ItemsOf at l is → Bytes l → length (itemsBytes (pieces is)) ≤ length l
 unfolding itemsBytes
 items-shorter noMore by = omega arith
 items-shorter (another {is} c form rest some small f i) by =
@@ -59,7 +59,7 @@ between first last others [] e a b = let f : first ≡ last = cc in absurd (omeg
 between first last others (j ∷ middle) e a b = (middle, ap (λ x. x ∷ middle) (let f : j ≡ first = cc in f))
 
 module _ (p : List ℕ) (is : List Item) (by : Bytes p) (f : Formed p is) where
-  body-bytes : Bytes (f .form ++ f .body)
+  pub body-bytes : Bytes (f .form ++ f .body)
   body-bytes = bytes-right key _ (rw (f .whole) at by)
 
   encode-shorter : length (encode (pieces is)) ≤ length p

@@ -172,3 +172,18 @@ items-walk {n = zero} (another c form rest some small f i) k = absurd (omega ari
 items-walk {n = suc n} {at} (another c form rest some small f i) k =
     walk-one n at (pieceBytes c form rest) _ _ _ (omega (arith, piece-length c form rest, form-some f)) (piece-read c form rest some small f)
     ∙ rw (after-piece c form rest, after-head c form rest, take-at (c .value) rest _ refl, items-walk {n = n} i (omega arith))
+
+-- where items end that begin at a place
+abbrev pub endOf : ℕ → List Item → ℕ
+endOf at [] = at
+endOf at (i ∷ is) = endOf (i .place + length (i .piece .value)) is
+
+pub items-end : {at : ℕ} {l : List ℕ} {is : List Item} → ItemsOf at l is → endOf at is ≡ at + length l
+items-end noMore = omega arith
+items-end (another {at} {is} c form rest some small f i) =
+    let e : at + headOf c form + length (c .value) ≡ at + (headOf c form + length (c .value)) = omega arith in
+    rw e (omega (arith, items-end i, piece-length c form rest))
+
+pub end-last : (at : ℕ) (front : List Item) (z : Item) → endOf at (front ++ (z ∷ [])) ≡ z .place + length (z .piece .value)
+end-last at [] z = refl
+end-last at (i ∷ front) z = end-last (i .place + length (i .piece .value)) front z

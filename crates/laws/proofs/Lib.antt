@@ -8,3 +8,4 @@ pub mod Written
 pub mod Forward
 pub mod Sent
 pub mod Readings
+pub mod Shortest

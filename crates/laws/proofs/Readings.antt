@@ -7,26 +7,32 @@ use mathlib.Core.Path.{_≡_, refl, ap, sym, _∙_}
 use mathlib.Core.Bool.{Bool, true, false, cond, _&&_}
 use mathlib.Core.List.{List, [], _∷_}
 use lib.ListN.{length}
-use lib.Dec.{eqb}
+use lib.Dec.{ltb, eqb}
+use borrow.Author.Tests.{le-ltb}
 use lib.Arith.{digits-mod}
 use Rattle.base.specs.Cases.{byBool}
-use Rattle.base.specs.Every.{Each}
-use Rattle.refusal.specs.Answer.{given}
+use Rattle.base.specs.Every.{Each, both-left}
+use Rattle.refusal.specs.Answer.{Answer, given, refused}
 use Rattle.number.specs.Stored.{Bytes, valueOf, bytesOf}
 use Rattle.catalogue.specs.Items.{groups, member, itemIn, itemOf}
 use Rattle.catalogue.specs.Shapes.{shapeOf}
 use Rattle.catalogue.specs.declared.Shape.{Shape}
 use Rattle.catalogue.specs.declared.Shape.the-variants.{Text, Number, Absent}
+use Rattle.tagset.specs.Sets.{holds}
+use Rattle.tagset.specs.declared.TagSet.{TagSet}
+use Rattle.knowing.specs.Good.{good}
 use Rattle.packet.specs.Pieces.{Piece, Item, pieces}
-use Rattle.packet.specs.Judge.{Knowing, fine, judge}
-use Rattle.packet.specs.Verdict.{verdict}
+use Rattle.packet.specs.Structure.{structure}
+use Rattle.packet.specs.Judge.{Knowing, Judged, fine, faulty, noVersion, judge}
+use Rattle.packet.specs.Verdict.{placed, verdict, received, counted}
 use Rattle.packet.specs.Encode.{encode, canonical}
-use Rattle.packet.specs.Rows.{shapeFor, kindIn, codeIn, Row, rowOf, rowsOf, sizeOf, bytesAt, valueIn, pieceOf, piecesOf, SameRow, SameTable, noRows, oneMore}
+use Rattle.packet.specs.Rows.{shapeFor, kindIn, codeIn, Row, rowOf, rowsOf, sizeOf, bytesAt, valueIn, pieceOf, piecesOf, words, tableOf, lentVerdict, readAnswer, tableBy, readTable, rowsIn, SameRow, SameTable, noRows, oneMore}
 use Rattle.laws.proofs.Items.{never}
-use Rattle.laws.proofs.Accepted.{accepts}
-use Rattle.laws.proofs.Written.{sumPiece, SameBut, atLast, further, Sendable, ReadBack, read-back, written-accepted}
+use Rattle.laws.proofs.Structure.{passed}
+use Rattle.laws.proofs.Accepted.{accepts, accepting}
+use Rattle.laws.proofs.Written.{sumPiece, SameBut, atLast, further, but-length, judged-alike, length-pieces, Sendable, ReadBack, read-back, written-accepted}
 use Rattle.laws.proofs.Forward.{canonical-is, canonical-back}
-use Rattle.laws.proofs.Sent.{Lies, formed-lie, bytes-back, SizedFor, piece-back, accepted-sized, accepted-lie, rows-pieces}
+use Rattle.laws.proofs.Sent.{rows-in-table, Lies, formed-lie, bytes-back, SizedFor, piece-back, accepted-sized, accepted-lie, rows-pieces}
 
 -- a row as a receiver gives it to the piece that it stands for; the checksum's code is any
 pub record Made (K : Knowing) (b : List ℕ) (r : Row) : Type 0 where
@@ -124,11 +130,62 @@ made-rows K p [] by l s = tt
 made-rows K p (i ∷ is) by l s = (made-row K p i by (l .0) (s .0), made-rows K p is by (l .1) (s .1))
 
 -- what is sent on gives the same table as the packet
-pub forward-table : (K : Knowing) (p : List ℕ) (is : List Item) (by : Bytes p) (e : verdict K p ≡ given is) → K 1 ≡ true
-    → SameTable p (canonical p) (rowsOf K is) (rowsOf K (canonical-back p is by (accepts K p is e .found) .items))
-forward-table K p is by e k =
-    let f = accepts K p is e .found in
-    let back = canonical-back p is by f in
-    rw (canonical-is p is by f)
-    (same-table K p (encode (pieces is)) k (back .same) (rowsOf K is) (back .items) (rows-pieces K p is by e) refl
-    (made-rows K p is by (accepted-lie K p is by e) (accepted-sized K p is by e)) (formed-lie _ (back .items) (back .formed)))
+module _ (K : Knowing) (p : List ℕ) (is : List Item) (by : Bytes p) (k : K 1 ≡ true) where
+  sent-table : (f : structure p ≡ given is) → judge K (pieces is) ≡ fine
+      → SameTable p (encode (pieces is)) (rowsOf K is) (rowsOf K (canonical-back p is by f .items))
+  sent-table f j =
+      let back = canonical-back p is by f in
+      let e : verdict K p ≡ given is = accepting K p is (record { found = f; faultless = j }) in
+      same-table K p (encode (pieces is)) k (back .same) (rowsOf K is) (back .items) (rows-pieces K p is by e) refl
+      (made-rows K p is by (accepted-lie K p is by e) (accepted-sized K p is by e)) (formed-lie _ (back .items) (back .formed))
+
+  pub forward-table : verdict K p ≡ given is → (js : List Item) × (verdict K (canonical p) ≡ given js) × SameTable p (canonical p) (rowsOf K is) (rowsOf K js)
+  forward-table e =
+      let a = accepts K p is e in
+      let back = canonical-back p is by (a .found) in
+      rw (canonical-is p is by (a .found)) (
+        back .items,
+        accepting K _ _ (record { found = back .read; faultless = sym (judged-alike K (back .same)) ∙ a .faultless }),
+        sent-table (a .found) (a .faultless),
+      )
+
+-- two readings up to places: the same refusal and tag, or the same count and the same table
+pub data SameReading (p q : List ℕ) : Answer ℕ → List ℕ → Answer ℕ → List ℕ → Type 0 where
+  bothRefuse : {n t a b : ℕ} {l m : List ℕ} → SameReading p q (refused n a t) l (refused n b t) m
+  bothRead : {n : ℕ} {l m : List ℕ} → SameTable p q (rowsIn n l) (rowsIn n m) → SameReading p q (given n) l (given n) m
+
+-- who has a good set knows the checksum
+knows-sum : (K : TagSet) → good K ≡ true → holds K 1 ≡ true
+unfolding good
+knows-sum K g = both-left (holds K 1) _ g
+
+-- demand 3, second half: a packet that some receiver K accepts and sends on, read by any receiver K′ as it came and as it was sent on,
+-- with tables of at least 512 words
+module _ (K K′ : TagSet) (p t t′ : List ℕ) (is : List Item) (by : Bytes p) (e : received K p ≡ given is)
+    (long : 512 ≤ length t) (long′ : 512 ≤ length t′) where
+  found : structure p ≡ given is
+  unfolding received
+  found = accepts (holds K) p is (passed (good K) (verdict (holds K) p) 1 0 0 e .1) .found
+
+  sent : ReadBack (pieces is)
+  sent = canonical-back p is by found
+
+  pub sent-reading : SameReading p (canonical p) (readAnswer K′ p t) (readTable K′ p t) (readAnswer K′ (canonical p) t′) (readTable K′ (canonical p) t′)
+  unfolding readAnswer readTable lentVerdict verdict sent
+  sent-reading =
+      byBool (good K′)
+      (λ g. rw (g, le-ltb (length t) 512 long, le-ltb (length t′) 512 long′, canonical-is p is by found, found, sent .read, ← (judged-alike (holds K′) (sent .same)))
+      (go g (judge (holds K′) (pieces is)) refl))
+      (λ g. rw g bothRefuse)
+    where
+      go : good K′ ≡ true → (j : Judged) → judge (holds K′) (pieces is) ≡ j
+          → SameReading p (encode (pieces is)) (counted (placed is j)) (tableBy (holds K′) t (placed is j))
+          (counted (placed (sent .items) j)) (tableBy (holds K′) t′ (placed (sent .items) j))
+      go g fine f =
+          let count : length (sent .items) ≡ length is = sym (length-pieces (sent .items)) ∙ (sym (but-length (sent .same)) ∙ length-pieces is) in
+          let rows : SameTable p (encode (pieces is)) (rowsIn (length is) (tableOf (holds K′) is t)) (rowsIn (length is) (tableOf (holds K′) (sent .items) t′)) =
+          rw (rows-in-table (holds K′) is t _ refl, rows-in-table (holds K′) (sent .items) t′ _ count)
+          (sent-table (holds K′) p is by (knows-sum K′ g) found f) in
+          rw count (bothRead rows)
+      go g (faulty k n u) f = bothRefuse
+      go g noVersion f = bothRefuse

@@ -119,19 +119,23 @@ module _ (K : Knowing) (p : List ℕ) (is : List Item) (by : Bytes p) (e : verdi
   sent-on = rw (rows-pieces, canonical-is p is by (accepts K p is e .found))
 
 -- a receiver with a good set and a table of at least 512 words
-pub table-rows : (K : Knowing) (is : List Item) (rest : List ℕ) → rowsIn (length is) (words (rowsOf K is) ++ rest) ≡ rowsOf K is
+table-rows : (K : Knowing) (is : List Item) (rest : List ℕ) → rowsIn (length is) (words (rowsOf K is) ++ rest) ≡ rowsOf K is
 unfolding words rowsOf rowsIn
 table-rows K [] rest = refl
 table-rows K (i ∷ is) rest = ap (λ rs. rowOf K i ∷ rs) (table-rows K is rest)
 
+pub rows-in-table : (K : Knowing) (is : List Item) (t : List ℕ) (n : ℕ) → length is ≡ n → rowsIn n (tableOf K is t) ≡ rowsOf K is
+unfolding tableOf
+rows-in-table K is t n e = rw (← e) (table-rows K is _)
+
 module _ (K : TagSet) (p t : List ℕ) (n : ℕ) (by : Bytes p) (e : readAnswer K p t ≡ given n) where
   -- reading and then writing all rows of the table, the packet being the buffer, gives the packet as it is sent on
   pub sent-from-table : encode (piecesOf (holds K) p (rowsIn n (readTable K p t))) ≡ canonical p
-  unfolding readAnswer readTable lentVerdict tableOf
+  unfolding readAnswer readTable lentVerdict
   sent-from-table = let c = given-count (lentVerdict K p t) n e in go (c .0) (c .1) (c .2)
     where
       go : (is : List Item) → lentVerdict K p t ≡ given is → length is ≡ n → encode (piecesOf (holds K) p (rowsIn n (readTable K p t))) ≡ canonical p
       go is f l =
           let g = passed (good K) _ 1 0 0 f in
           let h = missed (ltb (length t) 512) _ 2 0 0 (g .1) in
-          rw (f, ← l, table-rows (holds K) is _) (sent-on (holds K) p is by (h .1))
+          rw (f, rows-in-table (holds K) is t n l) (sent-on (holds K) p is by (h .1))

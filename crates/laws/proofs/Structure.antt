@@ -21,7 +21,7 @@ use Rattle.checksum.specs.Sum.{checksumOf}
 use Rattle.packet.specs.Pieces.{Item, walk}
 use Rattle.packet.specs.Structure.{key, same, lastOf, isChecksum, lastly, ends, afterOuter, structure}
 use Rattle.packet.specs.Allowed.{ItemsOf, Formed}
-use Rattle.laws.proofs.Items.{never, Walked, walk-items, items-walk}
+use Rattle.laws.proofs.Items.{never, endOf, items-end, end-last, Walked, walk-items, items-walk}
 
 -- the key, compared byte by byte
 same-self : (l : List ℕ) → same l l ≡ true
@@ -135,6 +135,12 @@ module _ (p : List ℕ) (is : List Item) (f : Formed p is) where
 
   pub formed-body : drop (16 + length (f .form)) p ≡ f .body
   formed-body = rw (← (drop-drop (length (f .form)) 16 p), after-key) (drop-at (f .form) (f .body) _ refl)
+
+  -- the checksum's value is the last two bytes
+  pub formed-sum : f .last .place + 2 ≡ length p
+  formed-sum =
+      let at : ℕ = 16 + length (f .form) in
+      omega (arith, items-end (f .items), ap (endOf at) (f .closes), end-last at (f .front) (f .last), f .pair, formed-length)
 
   pub formed-structure : structure p ≡ given is
   unfolding structure afterOuter

@@ -96,7 +96,7 @@ but-tagged : {cs ds : List Piece} → SameBut cs ds → Each Tagged cs → Each 
 but-tagged (atLast e) t = (record { some = omega arith; small = omega arith }, tt)
 but-tagged (further s) t = (t .0, but-tagged s (t .1))
 
-but-length : {cs ds : List Piece} → SameBut cs ds → length cs ≡ length ds
+pub but-length : {cs ds : List Piece} → SameBut cs ds → length cs ≡ length ds
 but-length (atLast e) = refl
 but-length (further s) = ap suc (but-length s)
 
