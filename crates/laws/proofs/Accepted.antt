@@ -1,7 +1,7 @@
 -- A receiver accepts a packet exactly where document 01 allows it, and what is allowed has one reading.
 -- Assumes nothing.
 use Prim.Native.Nat.{ℕ}
-use mathlib.Core.Path.{_≡_, refl, ap, _∙_}
+use mathlib.Core.Path.{_≡_, refl}
 use mathlib.Core.List.{List}
 use Rattle.refusal.specs.Answer.{Answer, given, refused}
 use Rattle.number.specs.Stored.{Bytes}

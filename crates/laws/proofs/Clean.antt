@@ -4,7 +4,7 @@ use Prim.Native.Nat.{ℕ, zero, suc, _<_, suc-le-suc}
 use native.Mathlib.Omega.{arith}
 use mathlib.Core.Path.{_≡_, refl, sym}
 use mathlib.Core.Logic.{_⊎_, inl, inr, ⊎-elim}
-use mathlib.Core.Bool.{Bool, true, false, cond, _||_}
+use mathlib.Core.Bool.{true, false}
 use mathlib.Core.List.{List, [], _∷_}
 use lib.ListN.{length}
 use lib.Dec.{eqb}
@@ -13,7 +13,7 @@ use Rattle.base.specs.Cases.{byBool, clash}
 use Rattle.number.specs.Stored.{valueOf}
 use Rattle.catalogue.specs.Shapes.{lengthAllowed, codeAllowed}
 use Rattle.packet.specs.Pieces.{Piece}
-use Rattle.packet.specs.Judge.{Knowing, has, Fault, clean, wrong, faultOf, Judged, fine, faulty, noVersion, later, onFault, judgeFrom, judge}
+use Rattle.packet.specs.Judge.{Knowing, has, Fault, clean, wrong, faultOf, Judged, fine, faulty, noVersion, later, judgeFrom, judge}
 use Rattle.packet.specs.Allowed.{pieceAt, Clean}
 use Rattle.laws.proofs.Items.{never}
 

@@ -1,22 +1,21 @@
 -- A packet sent on in its shortest form: it is no longer than it was, and every receiver gives it the same verdict, up to places.
 -- Assumes nothing.
-use Prim.Native.Nat.{ℕ, _+_, _-_, _^_, _<_, _≤_}
+use Prim.Native.Nat.{ℕ, _≤_}
 use native.Mathlib.Omega.{arith}
-use mathlib.Core.Path.{_≡_, refl, ap, sym, _∙_}
-use mathlib.Core.Bool.{true, false, cond}
+use mathlib.Core.Path.{_≡_, refl, ap, _∙_}
 use mathlib.Core.List.{List, [], _∷_, _++_}
-use lib.ListN.{length, take, drop, length-append}
+use lib.ListN.{length, length-append}
 use Rattle.base.specs.Cases.{byBool}
 use Rattle.base.specs.Every.{Each}
 use Rattle.refusal.specs.Answer.{Answer, given, refused}
 use Rattle.number.specs.Stored.{Bytes}
 use Rattle.number.proofs.Laws.{bytes-left, bytes-right}
-use Rattle.ber.specs.Written.{tagBytes, lengthBytes}
+use Rattle.ber.specs.Written.{tagBytes}
 use Rattle.ber.proofs.Laws.{form-shortest, length-mono}
 use Rattle.tagset.specs.Sets.{holds}
 use Rattle.tagset.specs.declared.TagSet.{TagSet}
 use Rattle.knowing.specs.Good.{good}
-use Rattle.packet.specs.Pieces.{Piece, Item, pieces}
+use Rattle.packet.specs.Pieces.{Item, pieces}
 use Rattle.packet.specs.Structure.{key, structure}
 use Rattle.packet.specs.Judge.{Knowing, Judged, fine, faulty, noVersion, judge}
 use Rattle.packet.specs.Verdict.{placed, verdict, received}
@@ -25,7 +24,7 @@ use Rattle.packet.specs.Allowed.{ItemsOf, noMore, another, Formed}
 use Rattle.laws.proofs.Items.{piece-length}
 use Rattle.laws.proofs.Structure.{passed, structure-formed, formed-length}
 use Rattle.laws.proofs.Accepted.{accepts}
-use Rattle.laws.proofs.Written.{length-item, length-pieces, Tagged, sumPiece, SameBut, judged-alike, Sendable, length-encode, ReadBack, read-back}
+use Rattle.laws.proofs.Written.{length-item, length-pieces, Tagged, SameBut, judged-alike, Sendable, length-encode, ReadBack, read-back}
 
 -- an item that stands there can be written
 items-tagged : {at : ℕ} {l : List ℕ} {is : List Item} → ItemsOf at l is → Each Tagged (pieces is)
@@ -48,15 +47,9 @@ items-shorter (another {is} c form rest some small f i) by =
       length-item c,
     )
 
--- the first item, those between, and the last
 pieces-append : (is js : List Item) → pieces (is ++ js) ≡ pieces is ++ pieces js
 pieces-append [] js = refl
 pieces-append (i ∷ is) js = ap (λ x. i .piece ∷ x) (pieces-append is js)
-
-between : (first last : Item) (others front : List Item) → first ∷ others ≡ front ++ (last ∷ []) → first .piece .tag ≡ 2 → last .piece .tag ≡ 1
-    → (middle : List Item) × (front ≡ first ∷ middle)
-between first last others [] e a b = let f : first ≡ last = cc in absurd (omega (arith, ap (λ (i : Item). i .piece .tag) f))
-between first last others (j ∷ middle) e a b = (middle, ap (λ x. x ∷ middle) (let f : j ≡ first = cc in f))
 
 module _ (p : List ℕ) (is : List Item) (by : Bytes p) (f : Formed p is) where
   pub body-bytes : Bytes (f .form ++ f .body)
@@ -75,19 +68,20 @@ module _ (p : List ℕ) (is : List Item) (by : Bytes p) (f : Formed p is) where
         length-mono n (length (f .body)) k (omega (arith, formed-length p is f, f .small)),
       )
 
+  -- what was read can be sent
   pub sendable : Sendable (pieces is)
   sendable =
-      let (middle, e) = between (f .first) (f .last) (f .others) (f .front) (sym (f .begins) ∙ f .closes) (f .time) (f .checksum) in
-      let z : f .last .piece ≡ sumPiece (f .last .piece .value) = ap (λ t. record { tag = t; value = f .last .piece .value }) (f .checksum) in
       record {
         tags = items-tagged (f .items);
         few = rw length-pieces (f .few);
         first = f .first .piece;
-        middle = pieces middle;
-        sum = f .last .piece .value;
-        whole = ap pieces (f .closes ∙ ap (λ x. x ++ (f .last ∷ [])) e)
-            ∙ (pieces-append (f .first ∷ middle) (f .last ∷ []) ∙ ap (λ c. f .first .piece ∷ (pieces middle ++ (c ∷ []))) z);
+        others = pieces (f .others);
+        begins = ap pieces (f .begins);
         time = f .time;
+        front = pieces (f .front);
+        last = f .last .piece;
+        closes = ap pieces (f .closes) ∙ pieces-append (f .front) (f .last ∷ []);
+        checksum = f .checksum;
         pair = f .pair;
         fits = omega (arith, encode-shorter, f .small);
       }

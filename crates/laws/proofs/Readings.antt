@@ -4,10 +4,10 @@
 use Prim.Native.Nat.{ℕ, _-_, _*_, _^_, _<_, _≤_}
 use native.Mathlib.Omega.{arith}
 use mathlib.Core.Path.{_≡_, refl, ap, sym, _∙_}
-use mathlib.Core.Bool.{Bool, true, false, cond, _&&_}
+use mathlib.Core.Bool.{Bool, true, _&&_}
 use mathlib.Core.List.{List, [], _∷_}
 use lib.ListN.{length}
-use lib.Dec.{ltb, eqb}
+use lib.Dec.{eqb}
 use borrow.Author.Tests.{le-ltb}
 use lib.Arith.{digits-mod}
 use Rattle.base.specs.Cases.{byBool}
@@ -26,7 +26,7 @@ use Rattle.packet.specs.Structure.{structure}
 use Rattle.packet.specs.Judge.{Knowing, Judged, fine, faulty, noVersion, judge}
 use Rattle.packet.specs.Verdict.{placed, verdict, received, counted}
 use Rattle.packet.specs.Encode.{encode, canonical}
-use Rattle.packet.specs.Rows.{shapeFor, kindIn, codeIn, Row, rowOf, rowsOf, sizeOf, bytesAt, valueIn, pieceOf, piecesOf, words, tableOf, lentVerdict, readAnswer, tableBy, readTable, rowsIn, SameRow, SameTable, noRows, oneMore}
+use Rattle.packet.specs.Rows.{shapeFor, kindIn, codeIn, Row, rowOf, rowsOf, sizeOf, bytesAt, pieceOf, piecesOf, tableOf, lentVerdict, readAnswer, tableBy, readTable, rowsIn, SameRow, SameTable, noRows, oneMore}
 use Rattle.laws.proofs.Items.{never}
 use Rattle.laws.proofs.Structure.{passed}
 use Rattle.laws.proofs.Accepted.{accepts, accepting}

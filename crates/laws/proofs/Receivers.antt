@@ -1,10 +1,10 @@
 -- Two receivers, of which one knows all that the other knows: they give the same verdict, or the larger refuses at a tag that only it
 -- knows.
 -- Assumes nothing.
-use Prim.Native.Nat.{ℕ, zero, _<_}
+use Prim.Native.Nat.{ℕ, _<_}
 use native.Mathlib.Omega.{arith}
 use mathlib.Core.Path.{_≡_, refl, sym, _∙_}
-use mathlib.Core.Bool.{true, false, cond}
+use mathlib.Core.Bool.{true, false}
 use mathlib.Core.List.{List, [], _∷_}
 use Rattle.base.specs.Cases.{byBool, byEq, clash}
 use Rattle.refusal.specs.Answer.{Answer, given, refused}
@@ -16,7 +16,7 @@ use Rattle.knowing.specs.Good.{inCatalogue, good}
 use Rattle.knowing.proofs.Laws.{good-means}
 use Rattle.packet.specs.Pieces.{Piece, Item, pieces}
 use Rattle.packet.specs.Structure.{structure}
-use Rattle.packet.specs.Judge.{Knowing, Fault, clean, wrong, faultOf, Judged, fine, faulty, noVersion, later, onFault, judgeFrom, judge}
+use Rattle.packet.specs.Judge.{Knowing, Fault, clean, wrong, faultOf, Judged, faulty, later, onFault, judgeFrom, judge}
 use Rattle.packet.specs.Verdict.{placed, judged, verdict, received}
 use Rattle.laws.proofs.Items.{never}
 
@@ -82,16 +82,22 @@ module _ (K K′ : Knowing) (below : Below K K′) where
       go (refused n p t) = agree
       go (given is) = place is (two-judged [] (pieces is))
 
-module _ {K K′ : Knowing} {is : List Item} where
+two-given : {K K′ : Knowing} {a b : Answer (List Item)} {is : List Item} → Two K K′ a b → b ≡ given is → a ≡ given is
+two-given agree e = e
+two-given (refuses o) e = never (cc)
+
+two-refused : {K K′ : Knowing} {a b : Answer (List Item)} {is : List Item} {n p t : ℕ} → Two K K′ a b → a ≡ given is → b ≡ refused n p t → Only K K′ t
+two-refused agree e f = never (cc)
+two-refused {t} (refuses {t = u} o) e f = let same : u ≡ t = cc in rw (← same) o
+
+module _ (K K′ : Knowing) (below : Below K K′) (p : List ℕ) (is : List Item) where
   -- what the larger accepts, the smaller accepts with the same items
-  pub larger-accepts : {a b : Answer (List Item)} → Two K K′ a b → b ≡ given is → a ≡ given is
-  larger-accepts agree e = e
-  larger-accepts (refuses o) e = never (cc)
+  pub larger-accepts : verdict K′ p ≡ given is → verdict K p ≡ given is
+  larger-accepts e = two-given (two-verdicts K K′ below p) e
 
   -- what the smaller accepts and the larger refuses, it refuses at a tag that only it knows
-  pub larger-refuses : {a b : Answer (List Item)} {n p t : ℕ} → Two K K′ a b → a ≡ given is → b ≡ refused n p t → Only K K′ t
-  larger-refuses agree e f = never (cc)
-  larger-refuses {t} (refuses {t = u} o) e f = let same : u ≡ t = cc in rw (← same) o
+  pub larger-refuses : (n a t : ℕ) → verdict K p ≡ given is → verdict K′ p ≡ refused n a t → Only K K′ t
+  larger-refuses n a t e f = two-refused (two-verdicts K K′ below p) e f
 
 -- 0 is in no catalogue
 no-zero : inCatalogue 0 ≡ false
@@ -106,10 +112,10 @@ module _ (K K′ : TagSet) (g : good K ≡ true) (g′ : good K′ ≡ true) (wi
 
   module _ (p : List ℕ) (is : List Item) where
     pub received-larger : received K′ p ≡ given is → received K p ≡ given is
-    received-larger e = larger-accepts (two-received p) e
+    received-larger e = two-given (two-received p) e
 
     pub received-only : (n a t : ℕ) → received K p ≡ given is → received K′ p ≡ refused n a t → Only (holds K) (holds K′) t
-    received-only n a t e f = larger-refuses (two-received p) e f
+    received-only n a t e f = two-refused (two-received p) e f
 
 -- a tag that only one of two receivers knows is a catalogue tag, so not the 0 of a refusal that has none
 pub only-tag : (K K′ : TagSet) (t : ℕ) → Words K′ → good K′ ≡ true → Only (holds K) (holds K′) t → (inCatalogue t ≡ true) × (0 < t)

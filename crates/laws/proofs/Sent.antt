@@ -1,12 +1,12 @@
 -- The rows of an accepted packet, over that packet as the buffer, are its pieces: so whoever accepts it sends the same packet on, and
 -- who gets it reads the same table.
 -- Assumes nothing.
-use Prim.Native.Nat.{ℕ, zero, suc, _+_, _*_, _<_, _≤_}
+use Prim.Native.Nat.{ℕ, suc, _+_, _<_}
 use native.Mathlib.Omega.{arith}
 use mathlib.Core.Path.{_≡_, refl, ap, sym, _∙_}
-use mathlib.Core.Bool.{Bool, true, false, cond}
+use mathlib.Core.Bool.{Bool, true}
 use mathlib.Core.List.{List, [], _∷_, _++_}
-use lib.ListN.{length, take, drop, length-append}
+use lib.ListN.{length, take, drop}
 use lib.Seq.{take-at, drop-drop}
 use lib.Arith.{digits-div, digits-mod}
 use lib.Dec.{ltb}
@@ -14,9 +14,8 @@ use borrow.Author.Tests.{eqb-true}
 use Rattle.base.specs.Cases.{byBool}
 use Rattle.base.specs.Every.{Each}
 use Rattle.refusal.specs.Answer.{given}
-use Rattle.number.specs.Stored.{Bytes, valueOf, bytesOf}
+use Rattle.number.specs.Stored.{Bytes, valueOf}
 use Rattle.number.proofs.Laws.{bytes-drop, bytes-take, spelled}
-use Rattle.ber.specs.Written.{tagBytes}
 use Rattle.catalogue.specs.Shapes.{shapeOf, shapeAllows, lengthAllowed}
 use Rattle.catalogue.specs.declared.Shape.{Shape}
 use Rattle.catalogue.specs.declared.Shape.the-variants.{Text, Number, Absent}
@@ -24,12 +23,11 @@ use Rattle.tagset.specs.Sets.{holds}
 use Rattle.tagset.specs.declared.TagSet.{TagSet}
 use Rattle.knowing.specs.Good.{good}
 use Rattle.packet.specs.Pieces.{Piece, Item, pieces}
-use Rattle.packet.specs.Structure.{structure}
 use Rattle.packet.specs.Judge.{Knowing}
 use Rattle.packet.specs.Verdict.{verdict}
 use Rattle.packet.specs.Rows.{shapeFor, rowOf, rowsOf, words, tableOf, lentVerdict, readAnswer, readTable, rowsIn, bytesAt, valueIn, pieceOf, piecesOf}
 use Rattle.packet.specs.Encode.{encode, canonical}
-use Rattle.packet.specs.Allowed.{headOf, ItemsOf, noMore, another, Formed, pieceAt, Clean}
+use Rattle.packet.specs.Allowed.{headOf, ItemsOf, noMore, another, Formed, pieceAt}
 use Rattle.laws.proofs.Items.{never, pieceBytes, after-head, after-piece, piece-length}
 use Rattle.laws.proofs.Structure.{passed, missed, structure-formed, formed-length, formed-body}
 use Rattle.laws.proofs.Clean.{fine-clean}

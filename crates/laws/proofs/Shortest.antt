@@ -2,22 +2,22 @@
 -- Assumes nothing.
 use Prim.Native.Nat.{ℕ, _+_, _-_, _^_, _<_, _≤_}
 use native.Mathlib.Omega.{arith}
-use mathlib.Core.Path.{_≡_, refl, ap, ap₂, sym, _∙_}
+use mathlib.Core.Path.{_≡_, refl, ap, sym, _∙_}
 use mathlib.Core.List.{List, [], _∷_, _++_, append-assoc}
 use lib.ListN.{length, take, drop, length-append, length-drop, take-append-drop}
 use lib.Seq.{take-all}
 use Rattle.base.specs.Every.{Each}
 use Rattle.refusal.specs.Answer.{given}
-use Rattle.number.specs.Stored.{Bytes, valueOf, bytesOf}
+use Rattle.number.specs.Stored.{Bytes, bytesOf}
 use Rattle.number.proofs.Laws.{bytes-left, bytes-right, bytes-drop, spelled}
 use Rattle.ber.specs.Written.{tagBytes, lengthBytes}
 use Rattle.ber.proofs.Laws.{form-shortest, form-one, length-mono}
 use Rattle.checksum.specs.Sum.{checksumOf}
-use Rattle.packet.specs.Pieces.{Piece, Item, pieces}
-use Rattle.packet.specs.Structure.{key, structure}
+use Rattle.packet.specs.Pieces.{Item, pieces}
+use Rattle.packet.specs.Structure.{structure}
 use Rattle.packet.specs.Verdict.{startOf}
-use Rattle.packet.specs.Encode.{itemBytes, itemsBytes, unsummed, beforeSum, summed, encode, canonical}
-use Rattle.packet.specs.Allowed.{headOf, ItemsOf, noMore, another, Formed}
+use Rattle.packet.specs.Encode.{itemBytes, itemsBytes, unsummed, summed, encode, canonical}
+use Rattle.packet.specs.Allowed.{ItemsOf, noMore, another, Formed}
 use Rattle.laws.proofs.Items.{piece-length}
 use Rattle.laws.proofs.Structure.{structure-formed, formed-length, formed-sum}
 use Rattle.laws.proofs.Written.{shortHead, length-item, length-encode}

@@ -1,22 +1,21 @@
 -- Demand 3, first half, over the tables: the same row for every item whose tag the smaller set knows, and a carried row for every other.
 -- Assumes nothing.
-use Prim.Native.Nat.{ℕ, zero, suc, _+_, _-_, _*_, _<_, _≤_}
+use Prim.Native.Nat.{ℕ, zero, suc, _+_, _*_, _<_, _≤_}
 use native.Mathlib.Omega.{arith}
 use mathlib.Core.Path.{_≡_, refl, ap, sym, _∙_}
-use mathlib.Core.Bool.{true, false, cond}
+use mathlib.Core.Bool.{true, false}
 use mathlib.Core.List.{List, [], _∷_, _++_}
-use lib.ListN.{length, getD, drop, replicate}
-use lib.Dec.{ltb}
+use lib.ListN.{length, getD}
 use borrow.Author.Tests.{le-ltb}
 use Rattle.refusal.specs.Answer.{Answer, given, refused}
 use Rattle.tagset.specs.Sets.{holds}
 use Rattle.tagset.specs.declared.TagSet.{TagSet}
 use Rattle.tagset.proofs.Laws.{Included}
 use Rattle.knowing.specs.Good.{good}
-use Rattle.packet.specs.Pieces.{Piece, Item}
+use Rattle.packet.specs.Pieces.{Item}
 use Rattle.packet.specs.Judge.{Knowing}
-use Rattle.packet.specs.Verdict.{counted, verdict, received}
-use Rattle.packet.specs.Rows.{shapeFor, Row, rowOf, rowsOf, words, tableOf, lentVerdict, readAnswer, tableBy, readTable, rowIn}
+use Rattle.packet.specs.Verdict.{counted, received}
+use Rattle.packet.specs.Rows.{shapeFor, Row, rowOf, rowsOf, words, tableOf, lentVerdict, readAnswer, readTable, rowIn}
 use Rattle.laws.proofs.Items.{never}
 use Rattle.laws.proofs.Receivers.{Below, Only, received-larger, received-only}
 

@@ -3,13 +3,12 @@
 use Prim.Native.Nat.{ℕ, suc, _+_, _-_, _^_, _<_, _≤_}
 use native.Mathlib.Omega.{arith}
 use mathlib.Core.Path.{_≡_, refl, ap, sym, _∙_, subst}
-use mathlib.Core.Bool.{cond}
 use mathlib.Core.List.{List, [], _∷_, _++_, append-assoc, append-nil}
 use lib.ListN.{length, take, length-append, length-take}
 use lib.Seq.{take-at}
 use Rattle.base.specs.Every.{Each}
 use Rattle.refusal.specs.Answer.{given}
-use Rattle.number.specs.Stored.{Bytes, valueOf, bytesOf}
+use Rattle.number.specs.Stored.{Bytes, bytesOf}
 use Rattle.number.proofs.Laws.{bytes-none, bytes-all, bytes-append, bytes-take, bytes-bytesOf, bytes-back, length-bytesOf}
 use Rattle.ber.specs.Written.{tagBytes, lengthBytes}
 use Rattle.ber.proofs.Laws.{length-form, length-bytes, tag-bytes}
@@ -110,17 +109,26 @@ pub judged-alike : (K : Knowing) {cs ds : List Piece} → SameBut cs ds → judg
 unfolding judge
 judged-alike K s = judge-but K [] s
 
--- pieces that can be sent as a packet
+-- pieces that can be sent as a packet: the rules of a packet that do not depend on who reads it
 pub record Sendable (cs : List Piece) : Type 0 where
   pub tags : Each Tagged cs
   pub few : length cs ≤ 128
   pub first : Piece
-  pub middle : List Piece
-  pub sum : List ℕ
-  pub whole : cs ≡ first ∷ (middle ++ (sumPiece sum ∷ []))
+  pub others : List Piece
+  pub begins : cs ≡ first ∷ others
   pub time : first .tag ≡ 2
-  pub pair : length sum ≡ 2
+  pub front : List Piece
+  pub last : Piece
+  pub closes : cs ≡ front ++ (last ∷ [])
+  pub checksum : last .tag ≡ 1
+  pub pair : length (last .value) ≡ 2
   pub fits : length (encode cs) ≤ 8192
+
+-- the first piece is not the last
+between : (first last : Piece) (others front : List Piece) → first ∷ others ≡ front ++ (last ∷ []) → first .tag ≡ 2 → last .tag ≡ 1
+    → (middle : List Piece) × (front ≡ first ∷ middle)
+between first last others [] e a b = let f : first ≡ last = cc in absurd (omega (arith, ap (λ (c : Piece). c .tag) f))
+between first last others (c ∷ middle) e a b = (middle, ap (λ x. x ∷ middle) (let f : c ≡ first = cc in f))
 
 -- where the items of a written packet begin
 abbrev pub bodyAt : List Piece → ℕ
@@ -179,19 +187,31 @@ unfolding tagBytes lengthBytes
 sum-head v e = rw e
 
 module _ (cs : List Piece) (s : Sendable cs) where
+  split : (middle : List Piece) × (s .front ≡ s .first ∷ middle)
+  split = between (s .first) (s .last) (s .others) (s .front) (sym (s .begins) ∙ s .closes) (s .time) (s .checksum)
+
+  middle : List Piece
+  middle = split .0
+
   front : List Piece
-  front = s .first ∷ s .middle
+  front = s .first ∷ middle
+
+  whole : cs ≡ front ++ (sumPiece (s .last .value) ∷ [])
+  unfolding front middle
+  whole =
+      let z : s .last ≡ sumPiece (s .last .value) = ap (λ t. record { tag = t; value = s .last .value }) (s .checksum) in
+      s .closes ∙ (ap (λ x. x ++ (s .last ∷ [])) (split .1) ∙ ap (λ c. front ++ (c ∷ [])) z)
 
   found : List Piece
   found = withSum front
 
   found-same : SameBut cs found
   unfolding front found withSum
-  found-same = rw (s .whole) (same-but front (s .sum) (newSum front) (s .pair ∙ sym (pair-new front)))
+  found-same = subst (λ x. SameBut x found) (sym whole) (same-but front (s .last .value) (newSum front) (s .pair ∙ sym (pair-new front)))
 
   found-written : encode cs ≡ unsummed found
   unfolding front found
-  found-written = ap encode (s .whole) ∙ encode-last front (s .sum) (s .pair)
+  found-written = ap encode whole ∙ encode-last front (s .last .value) (s .pair)
 
   found-formed : Formed (unsummed found) (itemsAt (bodyAt found) found)
   unfolding front found withSum newSum unsummed itemsAt
@@ -220,7 +240,7 @@ module _ (cs : List Piece) (s : Sendable cs) where
         items = items-written at found (but-tagged found-same (s .tags)) (omega arith);
         few = omega (arith, but-length found-same, s .few, length-pieces (itemsAt at found), ap length (pieces-at at found));
         first = record { start = at; place = at + shortHead (s .first); piece = s .first };
-        others = itemsAt (at + (shortHead (s .first) + length (s .first .value))) (s .middle ++ (sumPiece new ∷ []));
+        others = itemsAt (at + (shortHead (s .first) + length (s .first .value))) (middle ++ (sumPiece new ∷ []));
         begins = refl;
         time = s .time;
         front = itemsAt at front;

@@ -114,8 +114,8 @@ unfoldable pub piecesOf : Knowing → List ℕ → List Row → List Piece
 piecesOf K b [] = []
 piecesOf K b (r ∷ rs) = pieceOf K b r ∷ piecesOf K b rs
 
--- "“The same table” means the same count, tags, kinds, codes and lengths, and for text and carried rows the same value bytes;
--- places and the checksum's code are left aside." b and c are the buffers that the rows point into.
+-- The same table is "the same count, tags, kinds, codes and lengths, and for text and carried rows the same value bytes; places and
+-- the checksum's code are left aside." b and c are the buffers that the rows point into.
 pub record SameRow (b c : List ℕ) (r s : Row) : Type 0 where
   pub tag : r .tag ≡ s .tag
   pub kind : r .kind ≡ s .kind
