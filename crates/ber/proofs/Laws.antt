@@ -76,6 +76,7 @@ pub record TagRead (l : List ℕ) (t s : ℕ) : Type 0 where
   pub some : 0 < t
   pub small : t < 2097152
   pub size : s ≡ length (tagBytes t)
+  pub takes : 0 < s
   pub inside : s ≤ length l
   pub same : l ≡ tagBytes t ++ drop s l
 
@@ -88,14 +89,14 @@ tag-read l t s by h = go l (readTag l) (tag-view l) by h
         let et : a ≡ t = cc in
         let es : 1 ≡ s = cc in
         let e = tag-one a p q in
-        rw (← et, ← es) (record { some = p; small = omega arith; size = rw e; inside = omega arith; same = rw e })
+        rw (← et, ← es) (record { some = p; small = omega arith; size = rw e; takes = omega arith; inside = omega arith; same = rw e })
     go l x (twoBytes {a} {b} p q) by h =
         let et : (a - 128) * 128 + b ≡ t = cc in
         let es : 2 ≡ s = cc in
         let k : a < 256 = by .byte 0 in
         let e = tag-two ((a - 128) * 128 + b) (omega arith) (omega arith)
         ∙ ap₂ (λ y z. y ∷ z ∷ []) (let u : 128 + ((a - 128) * 128 + b) / 128 ≡ a = omega arith in u) (let v : ((a - 128) * 128 + b) % 128 ≡ b = omega arith in v) in
-        rw (← et, ← es) (record { some = omega arith; small = omega arith; size = rw e; inside = omega arith; same = rw e })
+        rw (← et, ← es) (record { some = omega arith; small = omega arith; size = rw e; takes = omega arith; inside = omega arith; same = rw e })
     go l x (threeBytes {a} {b} {c} p q m) by h =
         let n : ℕ = ((a - 128) * 128 + (b - 128)) * 128 + c in
         let et : n ≡ t = cc in
@@ -106,7 +107,7 @@ tag-read l t s by h = go l (readTag l) (tag-view l) by h
         let e2 : 128 + n / 128 % 128 ≡ b = omega arith in
         let e3 : n % 128 ≡ c = omega arith in
         let e : tagBytes n ≡ a ∷ b ∷ c ∷ [] = rw (tag-three n (omega arith) (omega arith)) (rw (e1, e2, e3)) in
-        rw (← et, ← es) (record { some = omega arith; small = omega arith; size = rw e; inside = omega arith; same = rw e })
+        rw (← et, ← es) (record { some = omega arith; small = omega arith; size = rw e; takes = omega arith; inside = omega arith; same = rw e })
 
 -- a long length of n bytes, whatever n
 pub read-long : (n x : ℕ) (l : List ℕ) → 0 < n → n < 5 → x < 256 ^ n → readLength (long n x ++ l) ≡ got x (n + 1)

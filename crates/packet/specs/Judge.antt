@@ -1,7 +1,7 @@
 -- What a receiver adds: the first fault of the known items, "each known item in place order with 12, 13, 14; then 15".
 -- It sees tags and values and never places.
 use Prim.Native.Nat.{ℕ, zero, suc}
-use mathlib.Core.Bool.{Bool, true, false, cond, _||_}
+use mathlib.Core.Bool.{Bool, false, cond, _||_}
 use mathlib.Core.List.{List, [], _∷_}
 use lib.ListN.{length}
 use lib.Dec.{eqb}

@@ -3,5 +3,8 @@ pub mod Structure
 pub mod Judge
 pub mod Verdict
 pub mod Rows
+pub mod Headers
+pub mod Tally
+pub mod Concluded
 pub mod Encode
 pub mod Allowed

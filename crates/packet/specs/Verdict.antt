@@ -3,11 +3,11 @@ use Prim.Native.Nat.{ℕ, zero, suc}
 use mathlib.Core.Bool.{cond}
 use mathlib.Core.List.{List, [], _∷_}
 use lib.ListN.{length}
-use lib.Dec.{ltb}
 use Rattle.refusal.specs.Answer.{Answer, given, refused}
 use Rattle.tagset.specs.Sets.{holds}
 use Rattle.tagset.specs.declared.TagSet.{TagSet}
 use Rattle.knowing.specs.Good.{good}
+use Rattle.packet.specs.declared.Accepted.{Accepted}
 use Rattle.packet.specs.Pieces.{Item, pieces}
 use Rattle.packet.specs.Structure.{structure}
 use Rattle.packet.specs.Judge.{Knowing, Judged, fine, faulty, noVersion, judge}
@@ -39,5 +39,13 @@ abbrev pub counted : Answer (List Item) → Answer ℕ
 counted (given is) = given (length is)
 counted (refused n p t) = refused n p t
 
-unfoldable pub checked : TagSet → List ℕ → Answer ℕ
-checked K p = counted (received K p)
+-- where the items begin, and how many there are
+abbrev pub bodyOf : List Item → Accepted
+bodyOf is = record { from = startOf 0 is; count = length is }
+
+abbrev pub accepted : Answer (List Item) → Answer Accepted
+accepted (given is) = given (bodyOf is)
+accepted (refused n p t) = refused n p t
+
+unfoldable pub checked : TagSet → List ℕ → Answer Accepted
+checked K p = accepted (received K p)

@@ -1,1 +1,368 @@
-// A packet checked.
+// A packet checked: structure, then what the receiver knows of its items, in one walk.
+ghost use mathlib.Core.Path.{_≡_};
+ghost use Prim.Native.Nat.{_+_, _≤_};
+ghost use lib.Dec.{eqb};
+ghost use lib.ListN.{length, take, drop};
+ghost use mathlib.Core.Bool.{cond};
+ghost use Rattle.refusal.specs.Numbers.{number};
+ghost use Rattle.refusal.specs.Answer.{refused as refusedBy};
+ghost use Rattle.packet.specs.Judge.{shapeFault};
+ghost use Rattle.catalogue.specs.Column.{shapeColumn};
+ghost use Rattle.packet.specs.Headers.{itemBy, stepSaid, headerAt, faultSaid};
+ghost use Rattle.packet.specs.Pieces.{walk as walkItems};
+ghost use Rattle.packet.specs.Structure.{key, same};
+ghost use Rattle.packet.specs.Concluded.{framedAt, frameSaid, checkSaid, judgement, lastBy, concluded, walkedBy};
+ghost use Rattle.packet.specs.Verdict.{checked};
+ghost use Rattle.packet.specs.Tally.{faultIn, firstFault, firstSaid, withHeader, fresh, tallied, tallySaid, walkSaid};
+use catalogue::Shape;
+use refusal::Reason;
+use refusal::Refusal;
+use tagset::TagSet;
+
+// What stands before a value: the tag, where the item starts, where its value stands, and how many bytes that has.
+pub struct Header {
+    pub tag: u64,
+    pub start: usize,
+    pub place: usize,
+    pub size: usize,
+}
+
+pub enum Step {
+    Item(Header),
+    Refused(Refusal),
+}
+
+// The item at a place of a packet.
+pub fn item_at(packet: &[u8], at: usize) -> Step
+    ensures { λ r. ⌜ stepSaid r ≡ headerAt (now (packet .entry)) at ⌝ }
+{
+    let ber::Field::Is {
+        value: tag,
+        size: tag_size,
+    } = ber::tag_at(packet, at)
+    else {
+        return Step::Refused(Refusal {
+            reason: Reason::TagBroken,
+            place: at,
+            tag: 0,
+        });
+    };
+    let broken = Refusal {
+        reason: Reason::LengthBroken,
+        place: at,
+        tag,
+    };
+    let after = at + tag_size;
+    let ber::Field::Is {
+        value: length,
+        size: length_size,
+    } = ber::length_at(packet, after)
+    else {
+        return Step::Refused(broken);
+    };
+    let place = after + length_size;
+    let size = length as usize;
+    if packet.len() - place < size {
+        return Step::Refused(broken);
+    }
+    Step::Item(Header {
+        tag,
+        start: at,
+        place,
+        size,
+    })
+}
+
+// What is wrong with a known item, if anything is.
+pub enum Fault {
+    Clean,
+    Wrong(Reason),
+}
+
+// The rule for a known item of a shape, for reader and writer alike: its length, that it stands once, its code.
+pub fn fault_of(shape: Shape, tag: u64, size: usize, twice: bool, code: u64) -> Fault
+    ensures { λ r. ⌜ faultSaid r ≡ shapeFault shape tag size twice code ⌝ }
+{
+    if catalogue::allows_length(shape, size) {
+        if twice {
+            return Fault::Wrong(Reason::KnownTagTwice);
+        }
+        if catalogue::allows_code(tag, code) {
+            return Fault::Clean;
+        }
+        return Fault::Wrong(Reason::CodeNotAllowed);
+    }
+    Fault::Wrong(Reason::LengthNotAllowed)
+}
+
+// The first fault that a walk has met.
+enum First {
+    None,
+    At(Refusal),
+}
+
+// What a walk keeps of the items that it has passed: how many, the first one's tag, the last one, the tags seen, the first fault.
+struct Tally {
+    count: usize,
+    first: u64,
+    last: Header,
+    seen: TagSet,
+    fault: First,
+}
+
+enum Walk {
+    Whole(Tally),
+    Refused(Refusal),
+}
+
+// What is wrong with an item for a receiver: nothing where it does not know the tag.
+fn fault_at(packet: &[u8], column: &[u8; 128], known: TagSet, seen: TagSet, item: Header) -> Fault
+    requires { ⌜ (now column ≡ shapeColumn) × (item .place + item .size ≤ length (now packet)) ⌝ }
+    ensures { λ r. ⌜ faultSaid r ≡ faultIn known seen (itemBy (now (packet .entry)) item) ⌝ }
+{
+    let tag = item.tag;
+    let size = item.size;
+    let place = item.place;
+    if tagset::has(known, tag) {
+        let shape = catalogue::shape_at(column, tag);
+        let end = place + size;
+        let code = number::value(&packet[place..end]);
+        let twice = tagset::has(seen, tag);
+        return fault_of(shape, tag, size, twice, code);
+    }
+    Fault::Clean
+}
+
+// The fault met first stays.
+fn first_fault(met: First, fault: Fault, item: Header) -> First
+    ensures { λ r. ⌜ firstSaid r ≡ firstFault (firstSaid met) (faultSaid fault) (item .start) (item .tag) ⌝ }
+{
+    match met {
+        First::At(_) => met,
+        First::None => match fault {
+            Fault::Clean => First::None,
+            Fault::Wrong(reason) => First::At(Refusal {
+                reason,
+                place: item.start,
+                tag: item.tag,
+            }),
+        },
+    }
+}
+
+fn first_tag(count: usize, first: u64, tag: u64) -> u64
+    ensures { λ r. ⌜ r ≡ cond (eqb count 0) tag first ⌝ }
+{
+    if count == 0 {
+        return tag;
+    }
+    first
+}
+
+fn with_item(tally: Tally, item: Header, fault: Fault) -> Tally
+    requires { ⌜ tally .count ≤ 128 ⌝ }
+    ensures { λ r. ⌜ tallySaid r ≡ withHeader (tallySaid tally) item (faultSaid fault) ⌝ }
+{
+    let met = tally.fault;
+    let count = tally.count;
+    Tally {
+        count: count + 1,
+        first: first_tag(count, tally.first, item.tag),
+        last: item,
+        seen: tagset::with_tag(tally.seen, item.tag),
+        fault: first_fault(met, fault, item),
+    }
+}
+
+fn fresh_tally() -> Tally
+    ensures { λ r. ⌜ tallySaid r ≡ fresh ⌝ }
+{
+    Tally {
+        count: 0,
+        first: 0,
+        last: Header {
+            tag: 0,
+            start: 0,
+            place: 0,
+            size: 0,
+        },
+        seen: TagSet { low: 0, high: 0 },
+        fault: First::None,
+    }
+}
+
+// All items from a place to the packet's end, at most 128 of them.
+fn walk_from(packet: &[u8], from: usize, column: &[u8; 128], known: TagSet) -> Walk
+    requires { ⌜ now column ≡ shapeColumn ⌝ }
+    ensures { λ r. ⌜ walkSaid r ≡ tallied known fresh (walkItems 128 from (drop from (now (packet .entry)))) ⌝ }
+{
+    let mut here = from;
+    let mut tally = fresh_tally();
+    while here < packet.len() {
+        let count = tally.count;
+        if count == 128 {
+            return Walk::Refused(Refusal {
+                reason: Reason::TooManyItems,
+                place: here,
+                tag: 0,
+            });
+        }
+        match item_at(packet, here) {
+            Step::Refused(refusal) => {
+                return Walk::Refused(refusal);
+            }
+            Step::Item(item) => {
+                let fault = fault_at(packet, column, known, tally.seen, item);
+                tally = with_item(tally, item, fault);
+                here = item.place + item.size;
+            }
+        }
+    }
+    Walk::Whole(tally)
+}
+
+fn has_key(packet: &[u8]) -> bool
+    ensures { λ r. ⌜ r ≡ same (take 16 (now (packet .entry))) key ⌝ }
+{
+    if packet.len() < 16 {
+        return false;
+    }
+    if number::value(&packet[0..8]) == 0x060E_2B34_020B_0101 {
+        return number::value(&packet[8..16]) == 0x0E01_0301_0100_0000;
+    }
+    false
+}
+
+// Where the items begin.
+enum Frame {
+    From(usize),
+    Refused(Refusal),
+}
+
+fn unframed(reason: Reason, place: usize) -> Frame
+    ensures { λ r. ⌜ frameSaid r ≡ refusedBy (number reason) place 0 ⌝ }
+{
+    Frame::Refused(Refusal {
+        reason,
+        place,
+        tag: 0,
+    })
+}
+
+// The key and the outer length.
+fn framed(packet: &[u8]) -> Frame
+    ensures { λ r. ⌜ frameSaid r ≡ framedAt (now (packet .entry)) ⌝ }
+{
+    if 8192 < packet.len() {
+        return unframed(Reason::PacketTooLong, 0);
+    }
+    if has_key(packet) {
+        let ber::Field::Is { value, size } = ber::length_at(packet, 16) else {
+            return unframed(Reason::OuterLengthWrong, 16);
+        };
+        let from = 16 + size;
+        let rest = value as usize;
+        if packet.len() == from + rest {
+            return Frame::From(from);
+        }
+        return unframed(Reason::OuterLengthWrong, 16);
+    }
+    unframed(Reason::KeyDiffers, 0)
+}
+
+// An accepted packet: where its items begin, and how many there are.
+pub struct Accepted {
+    pub from: usize,
+    pub count: usize,
+}
+
+pub enum Checked {
+    Accepted(Accepted),
+    Refused(Refusal),
+}
+
+fn refused(reason: Reason, place: usize, tag: u64) -> Checked
+    ensures { λ r. ⌜ checkSaid r ≡ refusedBy (number reason) place tag ⌝ }
+{
+    Checked::Refused(Refusal { reason, place, tag })
+}
+
+// The first fault of a known item, then item 65.
+fn judged(from: usize, tally: Tally) -> Checked
+    ensures { λ r. ⌜ checkSaid r ≡ judgement from (tallySaid tally) ⌝ }
+{
+    let fault = tally.fault;
+    match fault {
+        First::At(refusal) => Checked::Refused(refusal),
+        First::None => {
+            if tagset::has(tally.seen, 65) {
+                return Checked::Accepted(Accepted {
+                    from,
+                    count: tally.count,
+                });
+            }
+            refused(Reason::VersionMissing, 0, 0)
+        }
+    }
+}
+
+// The last item, the checksum, and then the receiver's judgement.
+fn ended(packet: &[u8], from: usize, tally: Tally) -> Checked
+    requires { ⌜ tally .last .place + tally .last .size ≤ length (now packet) ⌝ }
+    ensures { λ r. ⌜ checkSaid r ≡ lastBy (now (packet .entry)) (tally .last) (judgement from (tallySaid tally)) ⌝ }
+{
+    let last = tally.last;
+    let place = last.place;
+    let size = last.size;
+    if last.tag == 1 {
+        if size == 2 {
+            let end = place + size;
+            let stored = number::value(&packet[place..end]);
+            let summed = checksum::checksum(&packet[..place]) as u64;
+            if stored == summed {
+                return judged(from, tally);
+            }
+            return refused(Reason::ChecksumDiffers, place, 1);
+        }
+    }
+    refused(Reason::LastNotChecksum, last.start, last.tag)
+}
+
+// The first item before that.
+fn conclude(packet: &[u8], from: usize, tally: Tally) -> Checked
+    requires { ⌜ tally .last .place + tally .last .size ≤ length (now packet) ⌝ }
+    ensures { λ r. ⌜ checkSaid r ≡ concluded (now (packet .entry)) from (tallySaid tally) ⌝ }
+{
+    let first = tally.first;
+    if tally.count == 0 {
+        return refused(Reason::FirstNotTimeStamp, packet.len(), 0);
+    }
+    if first == 2 {
+        return ended(packet, from, tally);
+    }
+    refused(Reason::FirstNotTimeStamp, from, first)
+}
+
+// The items, once it is known where they begin.
+fn check_from(packet: &[u8], from: usize, known: TagSet) -> Checked
+    ensures { λ r. ⌜ checkSaid r ≡ walkedBy (now (packet .entry)) from (tallied known fresh (walkItems 128 from (drop from (now (packet .entry))))) ⌝ }
+{
+    let column = catalogue::shapes();
+    match walk_from(packet, from, &column, known) {
+        Walk::Refused(refusal) => Checked::Refused(refusal),
+        Walk::Whole(tally) => conclude(packet, from, tally),
+    }
+}
+
+// Whether a receiver accepts a packet: document 01's refusals in their order, but for 2.
+pub fn check(packet: &[u8], known: TagSet) -> Checked
+    ensures { λ r. ⌜ checkSaid r ≡ checked known (now (packet .entry)) ⌝ }
+{
+    if knowing::is_good(known) {
+        return match framed(packet) {
+            Frame::Refused(refusal) => Checked::Refused(refusal),
+            Frame::From(from) => check_from(packet, from, known),
+        };
+    }
+    refused(Reason::SetNotGood, 0, 0)
+}

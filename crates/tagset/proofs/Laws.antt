@@ -6,14 +6,15 @@ use native.Mathlib.Nat.{suc-add}
 use mathlib.Core.Path.{_≡_, refl, ap, sym, _∙_}
 use mathlib.Core.Bool.{cond, true, false, not, _||_}
 use lib.Dec.{eqb}
-use lib.Bits.{bitAnd}
+use lib.Bits.{bitAnd, bitOr, or-lt}
+use lib.Pow.{pow-lt}
 use lib.Count.{ones}
-use borrow.Author.Tests.{eq-eqb, eqb-true}
+use borrow.Author.Tests.{eq-eqb, eqb-true, lt-ltb, le-ltb}
 use Rattle.base.specs.Cases.{byLt, clash, unless, unless-true}
 use Rattle.base.specs.Every.{all-below, below-all}
-use Rattle.tagset.specs.Sets.{holds, within, countBelow}
+use Rattle.tagset.specs.Sets.{holds, within, countBelow, withTag}
 use Rattle.tagset.specs.declared.TagSet.{TagSet}
-use Rattle.tagset.proofs.Words.{one-more, no-ones, all-ones, bit, low-bit, high-bit, no-bit, masked-bits, bits-masked}
+use Rattle.tagset.proofs.Words.{set-bit, other-bit, one-more, no-ones, all-ones, bit, low-bit, high-bit, no-bit, masked-bits, bits-masked}
 
 -- each is a word of 64 bits
 pub record Words (s : TagSet) : Type 0 where
@@ -103,3 +104,49 @@ module _ (s : TagSet) (w : Words s) where
   count-all (suc t) =
       ap (countBelow s) (suc-add t 128) ∙ count-step (t + 128)
       ∙ rw (holds-none s w (t + 128) (omega arith)) (omega (arith, count-all t))
+
+-- a tag more
+module _ (s : TagSet) (w : Words s) (t : ℕ) where
+  with-low : t < 64 → withTag s t ≡ record { low = bitOr (s .low) (2 ^ t); high = s .high }
+  unfolding withTag
+  with-low h = rw (lt-ltb t 64 h)
+
+  with-high : 64 ≤ t → t < 128 → withTag s t ≡ record { low = s .low; high = bitOr (s .high) (2 ^ (t - 64)) }
+  unfolding withTag
+  with-high h k = rw (le-ltb t 64 h, lt-ltb t 128 k)
+
+  pub with-none : 128 ≤ t → withTag s t ≡ s
+  unfolding withTag
+  with-none h = rw (le-ltb t 64 (omega arith), le-ltb t 128 h)
+
+  word-low : t < 64 → bitOr (s .low) (2 ^ t) < 2 ^ 64
+  word-low h = or-lt 64 (s .low) (2 ^ t) (w .low64) (pow-lt h)
+
+  word-high : 64 ≤ t → t < 128 → bitOr (s .high) (2 ^ (t - 64)) < 2 ^ 64
+  word-high h k = or-lt 64 (s .high) (2 ^ (t - 64)) (w .high64) (pow-lt {i = t - 64} {j = 64} (omega arith))
+
+  pub with-words : Words (withTag s t)
+  with-words =
+      byLt t 64 (λ h. rw (with-low h) (record { low64 = word-low h; high64 = w .high64 }))
+      (λ h. byLt t 128 (λ k. rw (with-high h k) (record { low64 = w .low64; high64 = word-high h k }))
+      (λ k. rw (with-none k) w))
+
+  pub with-it : t < 128 → holds (withTag s t) t ≡ true
+  with-it k =
+      byLt t 64
+      (λ h. rw (with-low h) (holds-low _ (record { low64 = word-low h; high64 = w .high64 }) t h ∙ eq-eqb _ 1 (set-bit (s .low) t)))
+      (λ h. rw (with-high h k) (holds-high _ (record { low64 = w .low64; high64 = word-high h k }) t h ∙ eq-eqb _ 1 (set-bit (s .high) (t - 64))))
+
+  pub with-other : (u : ℕ) → (u ≡ t → ⊥) → holds (withTag s t) u ≡ holds s u
+  with-other u other =
+      byLt t 64
+      (λ h. let v : Words (record { low = bitOr (s .low) (2 ^ t); high = s .high }) = record { low64 = word-low h; high64 = w .high64 } in
+      rw (with-low h) (byLt u 64
+      (λ k. holds-low _ v u k ∙ (ap (λ x. eqb x 1) (other-bit (s .low) t u other) ∙ sym (holds-low s w u k)))
+      (λ k. holds-high _ v u k ∙ sym (holds-high s w u k))))
+      (λ h. byLt t 128
+      (λ m. let v : Words (record { low = s .low; high = bitOr (s .high) (2 ^ (t - 64)) }) = record { low64 = w .low64; high64 = word-high h m } in
+      rw (with-high h m) (byLt u 64
+      (λ k. holds-low _ v u k ∙ sym (holds-low s w u k))
+      (λ k. holds-high _ v u k ∙ (ap (λ x. eqb x 1) (other-bit (s .high) (t - 64) (u - 64) (λ e. other (omega arith))) ∙ sym (holds-high s w u k)))))
+      (λ m. rw (with-none m)))

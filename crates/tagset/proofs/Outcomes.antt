@@ -6,6 +6,8 @@ use Rattle.tagset.proofs.has.Kinds as has-kinds
 use Rattle.tagset.proofs.has.Reads as has-reads
 use Rattle.tagset.proofs.count_below.Kinds as count-below-kinds
 use Rattle.tagset.proofs.count_below.Reads as count-below-reads
+use Rattle.tagset.proofs.with_tag.Kinds as with-tag-kinds
+use Rattle.tagset.proofs.with_tag.Reads as with-tag-reads
 use Rattle.tagset.proofs.is_within.Kinds as is-within-kinds
 use Rattle.tagset.proofs.is_within.Reads as is-within-reads
 
@@ -17,3 +19,6 @@ is-within-determined κs a z z′ e e′ p q = p ∙ sym q
 
 pub count-below-determined : Answered 0 count-below-kinds.ps count-below-kinds.r count-below-reads.Post
 count-below-determined κs a z z′ e e′ p q = p ∙ sym q
+
+pub with-tag-determined : Answered 0 with-tag-kinds.ps with-tag-kinds.r with-tag-reads.Post
+with-tag-determined κs a z z′ e e′ p q = p ∙ sym q

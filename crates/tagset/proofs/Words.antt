@@ -2,14 +2,14 @@
 -- Assumes nothing.
 use Prim.Native.Nat.{ℕ, zero, suc, _+_, _-_, _*_, _/_, _%_, _^_, _<_, _≤_, min}
 use native.Mathlib.Omega.{arith}
-use native.Mathlib.Nat.{le-trans, div-eq-of-lt, pow-suc, one-mul, mod-lt, mod-eq-of-lt}
+use native.Mathlib.Nat.{le-trans, div-eq-of-lt, pow-suc, one-mul, mod-lt, mod-eq-of-lt, mul-div-cancel, mul-mod-left, div-self}
 use mathlib.Core.Path.{_≡_, refl, ap, sym, _∙_}
 use mathlib.Core.Bool.{cond}
 use lib.Dec.{eqb}
 use lib.Count.{ones, ones-cat}
-use lib.Pow.{pow-pos, shl-exact, mod-pow-add, pow-mono, shr-shr, field, mod-mod-pow, high, low}
-use lib.Bits.{bitAnd, and-mask, and-step, and-shr, and-mod, and-zero-l}
-use Rattle.base.specs.Cases.{byEq}
+use lib.Pow.{pow-add, pow-lt, pow-pos, shl-exact, mod-pow-add, pow-mono, shr-shr, field, mod-mod-pow, high, low}
+use lib.Bits.{bitOr, or-shr, or-mod, or-zero-r, bitAnd, and-mask, and-step, and-shr, and-mod, and-zero-l}
+use Rattle.base.specs.Cases.{byEq, byLt}
 
 pub and-one : (x : ℕ) → bitAnd x 1 ≡ x % 2
 and-one x = and-mask x 1
@@ -90,3 +90,31 @@ no-ones w = let e : w % 1 ≡ 0 = omega arith in rw e refl
 
 pub all-ones : (w : ℕ) → w < 2 ^ 64 → ones (w % 2 ^ 64) ≡ ones w
 all-ones w h = ap ones (mod-eq-of-lt h)
+
+-- a bit set, and the others as they were
+pow-bit : (k j : ℕ) → (j ≡ k → ⊥) → bit (2 ^ k) j ≡ 0
+pow-bit k j other =
+    byLt j k
+    (λ h.
+    let e : k ≡ suc (k - (j + 1)) + j = omega arith in
+    ap (λ n. 2 ^ n / 2 ^ j % 2) e
+    ∙ ap (λ n. n / 2 ^ j % 2) (pow-add 2 (suc (k - (j + 1))) j)
+    ∙ ap (λ n. n % 2) (mul-div-cancel (2 ^ suc (k - (j + 1))) (pow-pos j))
+    ∙ ap (λ n. n % 2) (pow-suc 2 (k - (j + 1)))
+    ∙ mul-mod-left (2 ^ (k - (j + 1))) 2)
+    (λ h. ap (λ n. n % 2) (div-eq-of-lt (pow-lt (omega arith))))
+
+or-bit : (w v j : ℕ) → bit (bitOr w v) j ≡ bitOr (bit w j) (bit v j)
+or-bit w v j = ap (λ n. n % 2) (or-shr w v j) ∙ or-mod (w / 2 ^ j) (v / 2 ^ j) 1
+
+or-one : (x : ℕ) → x < 2 → bitOr x 1 ≡ 1
+or-one zero h = refl
+or-one (suc zero) h = refl
+or-one (suc (suc x)) h = absurd (omega arith)
+
+pub set-bit : (w k : ℕ) → bit (bitOr w (2 ^ k)) k ≡ 1
+set-bit w k =
+    or-bit w (2 ^ k) k ∙ (ap (λ n. bitOr (bit w k) (n % 2)) (div-self (pow-pos k)) ∙ or-one (bit w k) (bit-small w k))
+
+pub other-bit : (w k j : ℕ) → (j ≡ k → ⊥) → bit (bitOr w (2 ^ k)) j ≡ bit w j
+other-bit w k j other = or-bit w (2 ^ k) j ∙ (ap (bitOr (bit w j)) (pow-bit k j other) ∙ or-zero-r (bit w j))

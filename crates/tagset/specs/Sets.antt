@@ -1,7 +1,8 @@
 -- Document 01, The knowing set: "two 64-bit words, tag t being bit t of the pair. The first word is bits 0 to 63."
-use Prim.Native.Nat.{ℕ, zero, suc, _+_, _*_, _/_, _%_, _^_}
+use Prim.Native.Nat.{ℕ, zero, suc, _+_, _-_, _*_, _/_, _%_, _^_}
 use mathlib.Core.Bool.{Bool, cond, not, _||_}
-use lib.Dec.{eqb}
+use lib.Dec.{ltb, eqb}
+use lib.Bits.{bitOr}
 use Rattle.base.specs.Every.{allBelow}
 use Rattle.tagset.specs.declared.TagSet.{TagSet}
 
@@ -19,3 +20,9 @@ within s of = allBelow (λ t. not (holds s t) || holds of t) 128
 unfoldable pub countBelow : TagSet → ℕ → ℕ
 countBelow s zero = 0
 countBelow s (suc t) = cond (holds s t) 1 0 + countBelow s t
+
+-- the set with a tag more
+unfoldable pub withTag : TagSet → ℕ → TagSet
+withTag s t =
+    cond (ltb t 64) (record { low = bitOr (s .low) (2 ^ t); high = s .high })
+    (cond (ltb t 128) (record { low = s .low; high = bitOr (s .high) (2 ^ (t - 64)) }) s)

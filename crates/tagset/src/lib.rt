@@ -1,8 +1,8 @@
-// Sets of tags below 128 as two words, tag t being bit t of the pair: whether a tag is in it, how many are below a tag, whether one set is within another.
+// Sets of tags below 128 as two words, tag t being bit t of the pair: a tag in it, a tag more, how many are below a tag, one set within another.
 ghost use mathlib.Core.Path.{_≡_};
 ghost use Prim.Native.Nat.{_%_, _^_, _<_, _≤_};
 ghost use lib.Count.{ones as setBits};
-ghost use Rattle.tagset.specs.Sets.{holds, within, countBelow};
+ghost use Rattle.tagset.specs.Sets.{holds, within, countBelow, withTag};
 
 // The first word is bits 0 to 63.
 pub struct TagSet {
@@ -21,6 +21,25 @@ pub fn has(s: TagSet, tag: u64) -> bool
         return (s.high >> (tag - 64)) & 1 == 1;
     }
     false
+}
+
+// The set with a tag more; from 128 on it stays as it is.
+pub fn with_tag(s: TagSet, tag: u64) -> TagSet
+    ensures { λ r. ⌜ r ≡ withTag s tag ⌝ }
+{
+    if tag < 64 {
+        return TagSet {
+            low: s.low | (1 << tag),
+            high: s.high,
+        };
+    }
+    if tag < 128 {
+        return TagSet {
+            low: s.low,
+            high: s.high | (1 << (tag - 64)),
+        };
+    }
+    s
 }
 
 // How many tags below a tag the set holds.

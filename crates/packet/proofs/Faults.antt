@@ -1,0 +1,56 @@
+-- What is wrong with an item, as the code finds it.
+-- Assumes nothing.
+use Prim.Native.Nat.{ℕ, _+_, _%_, _^_, _<_, _≤_}
+use native.Mathlib.Omega.{arith}
+use mathlib.Core.Path.{_≡_, refl, ap, _∙_}
+use mathlib.Core.Bool.{Bool, true, false}
+use mathlib.Core.List.{List}
+use lib.ListN.{length, take, drop, length-take, length-drop}
+use borrow.Author.Tests.{ne-eqb}
+use Rattle.base.specs.Cases.{byEq}
+use Rattle.number.specs.Stored.{Bytes, valueOf}
+use Rattle.number.proofs.Laws.{bytes-take, bytes-drop, value-small}
+use Rattle.tagset.specs.Sets.{holds}
+use Rattle.tagset.specs.declared.TagSet.{TagSet}
+use Rattle.catalogue.specs.Items.{groups, member, itemIn, itemOf}
+use Rattle.catalogue.specs.Shapes.{shapeOf, codeAllowed}
+use Rattle.packet.specs.Pieces.{Item}
+use Rattle.packet.specs.Judge.{clean, shapeFault}
+use Rattle.packet.specs.Headers.{itemBy}
+use Rattle.packet.specs.Tally.{faultIn}
+use Rattle.packet.specs.declared.Header.{Header}
+
+sixty-three : shapeOf 63 ≡ shapeOf 34
+unfolding shapeOf itemOf itemIn member groups
+sixty-three = refl
+
+-- a value of another length is wrong whatever its code, and the items whose codes are limited have one byte
+module _ (n x : ℕ) (twice : Bool) (fits : x < 256 ^ n) where
+  one-byte : n ≡ 1 → x % 2 ^ 64 ≡ x
+  one-byte e = let f : x < 256 ^ 1 = rw e at fits in omega arith
+
+  limited : (t : ℕ) → shapeOf t ≡ shapeOf 34 → shapeFault (shapeOf t) t n twice (x % 2 ^ 64) ≡ shapeFault (shapeOf t) t n twice x
+  unfolding shapeOf itemOf itemIn member groups
+  limited t e = rw e (byEq n 1 (λ h. rw (one-byte h)) (λ h. rw (ne-eqb n 1 h)))
+
+  pub code-wraps : (t : ℕ) → shapeFault (shapeOf t) t n twice (x % 2 ^ 64) ≡ shapeFault (shapeOf t) t n twice x
+  unfolding codeAllowed
+  code-wraps t =
+      byEq t 34 (λ e. limited t (ap shapeOf e))
+      (λ a. byEq t 63 (λ e. limited t (ap shapeOf e ∙ sixty-three))
+      (λ b. rw (ne-eqb t 34 a, ne-eqb t 63 b)))
+
+module _ (K seen : TagSet) where
+  pub fault-unknown : (i : Item) → holds K (i .piece .tag) ≡ false → clean ≡ faultIn K seen i
+  unfolding faultIn
+  fault-unknown i e = rw e
+
+  pub fault-known : (p : List ℕ) (h : Header) → Bytes p → h .place + h .size ≤ length p → holds K (h .tag) ≡ true
+      → shapeFault (shapeOf (h .tag)) (h .tag) (h .size) (holds seen (h .tag)) (valueOf (take (h .size) (drop (h .place) p)) % 2 ^ 64)
+      ≡ faultIn K seen (itemBy p h)
+  unfolding faultIn
+  fault-known p h by inside e =
+      let v : List ℕ = take (h .size) (drop (h .place) p) in
+      let l : length v ≡ h .size = rw (length-take, length-drop) (omega arith) in
+      let small : valueOf v < 256 ^ h .size = rw l at (value-small v (bytes-take (h .size) (drop (h .place) p) (bytes-drop (h .place) by))) in
+      rw (e, l) (code-wraps (h .size) (valueOf v) (holds seen (h .tag)) small (h .tag))

@@ -1,0 +1,105 @@
+-- A walk item by item, and what it keeps.
+-- Assumes nothing.
+use Prim.Native.Nat.{ℕ, zero, suc, _+_, _-_, _<_, _≤_}
+use native.Mathlib.Omega.{arith}
+use native.Mathlib.Nat.{add-assoc}
+use mathlib.Core.Path.{_≡_, refl, _∙_}
+use mathlib.Core.List.{List, []}
+use lib.Dec.{leb}
+use lib.ListN.{length, take, drop, length-take, length-drop}
+use lib.Seq.{drop-drop}
+use borrow.Author.Tests.{lt-ltb, leb-true}
+use Rattle.base.specs.Cases.{byBool}
+use Rattle.base.specs.Parts.{nil-at}
+use Rattle.refusal.specs.Answer.{Answer, given, refused}
+use Rattle.number.specs.Stored.{Bytes}
+use Rattle.number.proofs.Laws.{bytes-drop}
+use Rattle.ber.specs.Read.{Read, got, broken, readTag, readLength}
+use Rattle.ber.proofs.Laws.{tag-read}
+use Rattle.tagset.specs.declared.TagSet.{TagSet}
+use Rattle.packet.specs.Pieces.{Item, Step, noTag, noLength, one, afterLength, afterTag, readItem, before, onward, walk}
+use Rattle.packet.specs.Headers.{headerOf, itemBy, headerBy, headerAt}
+use Rattle.packet.specs.Tally.{Tally, faultIn, withHeader, tallyFrom, tallied}
+use Rattle.packet.specs.declared.Header.{Header}
+
+module _ (p : List ℕ) (here : ℕ) where
+  pub walk-end : (n : ℕ) → length p ≤ here → walk n here (drop here p) ≡ given []
+  unfolding walk
+  walk-end zero h = rw (nil-at p here h)
+  walk-end (suc n) h = rw (nil-at p here h)
+
+  module _ (h : here < length p) where
+    some-left : 0 < length (drop here p)
+    some-left = rw length-drop (omega arith)
+
+    pub walk-full : walk 0 here (drop here p) ≡ refused 6 here 0
+    unfolding walk
+    walk-full = rw (lt-ltb 0 _ some-left)
+
+    walk-more : (n : ℕ) → walk (suc n) here (drop here p) ≡ onward (λ a r. walk n a r) here (drop here p) (readItem (drop here p))
+    unfolding walk
+    walk-more n = rw (lt-ltb 0 _ some-left)
+
+    refusing : (n r a t : ℕ) (s : Step) → headerBy here s ≡ refused r a t → onward (λ b l. walk n b l) here (drop here p) s ≡ refused r a t
+    refusing n r a t noTag e = cc
+    refusing n r a t (noLength g) e = cc
+    refusing n r a t (one g k m) e = let z : _≡_ {A = ℕ} 0 1 = cc in absurd (omega arith)
+
+    pub walk-refused : (n r a t : ℕ) → headerAt p here ≡ refused r a t → walk (suc n) here (drop here p) ≡ refused r a t
+    unfolding headerAt
+    walk-refused n r a t e = walk-more n ∙ refusing n r a t (readItem (drop here p)) e
+
+    finding : (n : ℕ) (i : Header) (s : Step) → headerBy here s ≡ given i
+        → onward (λ b l. walk n b l) here (drop here p) s ≡ before (itemBy p i) (walk n (i .place + i .size) (drop (i .place + i .size) p))
+    finding n i noTag e = let z : _≡_ {A = ℕ} 0 1 = cc in absurd (omega arith)
+    finding n i (noLength g) e = let z : _≡_ {A = ℕ} 0 1 = cc in absurd (omega arith)
+    finding n i (one g k m) e =
+        let f : record { tag = g; start = here; place = here + k; size = m } ≡ i = cc in
+        rw (← f, drop-drop k here p, drop-drop (k + m) here p, add-assoc here k m)
+
+    pub walk-item : (n : ℕ) (i : Header) → headerAt p here ≡ given i
+        → walk (suc n) here (drop here p) ≡ before (itemBy p i) (walk n (i .place + i .size) (drop (i .place + i .size) p))
+    unfolding headerAt
+    walk-item n i e = walk-more n ∙ finding n i (readItem (drop here p)) e
+
+  -- a header lies within the packet, and the walk goes on
+  pub record Lies (i : Header) : Type 0 where
+    pub on : here < i .place + i .size
+    pub inside : i .place + i .size ≤ length p
+
+  pub header-lies : Bytes p → (i : Header) → headerAt p here ≡ given i → Lies i
+  unfolding headerAt readItem
+  header-lies by i e = by-tag (readTag (drop here p)) refl e
+    where
+      past : (t s n k : ℕ) → 0 < s → headerBy here (afterLength (length (drop here p)) t s (got n k)) ≡ given i → Lies i
+      past t s n k some e =
+          byBool (leb (s + k + n) (length (drop here p)))
+          (λ b. let f : given (record { tag = t; start = here; place = here + (s + k); size = n }) ≡ given i = rw b at e in
+          let g : record { tag = t; start = here; place = here + (s + k); size = n } ≡ i = cc in
+          let m : s + k + n ≤ length p - here = rw length-drop at (leb-true (s + k + n) (length (drop here p)) b) in
+          rw (← g) (record { on = omega arith; inside = omega arith }))
+          (λ b. let f : refused 8 here t ≡ given i = rw b at e in let z : _≡_ {A = ℕ} 0 1 = cc in absurd (omega arith))
+
+      by-length : (t s : ℕ) → 0 < s → (r : Read) → headerBy here (afterLength (length (drop here p)) t s r) ≡ given i → Lies i
+      by-length t s some broken e = let z : _≡_ {A = ℕ} 0 1 = cc in absurd (omega arith)
+      by-length t s some (got n k) e = past t s n k some e
+
+      by-tag : (r : Read) → readTag (drop here p) ≡ r → headerBy here (afterTag (drop here p) r) ≡ given i → Lies i
+      by-tag broken q e = let z : _≡_ {A = ℕ} 0 1 = cc in absurd (omega arith)
+      by-tag (got t s) q e =
+          by-length t s (tag-read (drop here p) t s (bytes-drop here by) q .takes) (readLength (drop s (drop here p))) e
+
+-- the header of the item that a header stands for
+pub header-back : (p : List ℕ) (i : Header) → i .place + i .size ≤ length p → headerOf (itemBy p i) ≡ i
+header-back p i h =
+    let e : length (take (i .size) (drop (i .place) p)) ≡ i .size = rw (length-take, length-drop) (omega arith) in
+    λ k. record { tag = i .tag; start = i .start; place = i .place; size = e k }
+
+pub tallied-before : (K : TagSet) (T : Tally) (i : Item) (w : Answer (List Item)) → tallied K T (before i w) ≡ tallied K (withHeader T (headerOf i) (faultIn K (T .seen) i)) w
+unfolding tallyFrom
+tallied-before K T i (given is) = refl
+tallied-before K T i (refused n p t) = refl
+
+pub tallied-none : (K : TagSet) (T : Tally) → tallied K T (given []) ≡ given T
+unfolding tallyFrom
+tallied-none K T = refl
