@@ -291,6 +291,11 @@ tag-bytes t some small =
     (λ k. rw (tag-two t h k) (bytes-cons (omega arith) (bytes-cons (omega arith) bytes-none)))
     (λ k. rw (tag-three t k small) (bytes-cons (omega arith) (bytes-cons (omega arith) (bytes-cons (omega arith) bytes-none)))))
 
+-- every form has a byte
+pub form-some : {x : ℕ} {f : List ℕ} → LengthForm x f → 0 < length f
+form-some (shortForm h) = omega arith
+form-some (longForm ds some few) = omega arith
+
 -- what an answer says tells any two answers apart
 pub seen-apart : (a b : Field) → seen a ≡ seen b → a ≡ b
 seen-apart (Is v s) (Is w t) e = cc

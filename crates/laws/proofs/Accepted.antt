@@ -3,6 +3,7 @@
 use Prim.Native.Nat.{ℕ}
 use mathlib.Core.Path.{_≡_, refl}
 use mathlib.Core.List.{List}
+use Rattle.base.specs.Cases.{never}
 use Rattle.refusal.specs.Answer.{Answer, given, refused}
 use Rattle.number.specs.Stored.{Bytes}
 use Rattle.packet.specs.Pieces.{Item, pieces}
@@ -10,7 +11,6 @@ use Rattle.packet.specs.Structure.{structure}
 use Rattle.packet.specs.Judge.{Knowing, Judged, fine, faulty, noVersion, judge}
 use Rattle.packet.specs.Verdict.{placed, judged, verdict}
 use Rattle.packet.specs.Allowed.{Allowed}
-use Rattle.laws.proofs.Items.{never}
 use Rattle.laws.proofs.Structure.{structure-formed, formed-structure}
 use Rattle.laws.proofs.Clean.{fine-clean, clean-fine}
 

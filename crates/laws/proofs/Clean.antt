@@ -9,13 +9,12 @@ use mathlib.Core.List.{List, [], _∷_}
 use lib.ListN.{length}
 use lib.Dec.{eqb}
 use borrow.Author.Tests.{eqb-true, eqb-false, eq-eqb, ne-eqb}
-use Rattle.base.specs.Cases.{byBool, clash}
+use Rattle.base.specs.Cases.{byBool, clash, never}
 use Rattle.number.specs.Stored.{valueOf}
 use Rattle.catalogue.specs.Shapes.{lengthAllowed, codeAllowed}
 use Rattle.packet.specs.Pieces.{Piece}
 use Rattle.packet.specs.Judge.{Knowing, has, Fault, clean, wrong, faultOf, Judged, fine, faulty, noVersion, later, judgeFrom, judge}
 use Rattle.packet.specs.Allowed.{pieceAt, Clean}
-use Rattle.laws.proofs.Items.{never}
 
 -- a known item by itself, after the tags that were seen
 record Right (seen : List ℕ) (c : Piece) : Type 0 where

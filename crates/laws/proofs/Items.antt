@@ -9,20 +9,16 @@ use lib.ListN.{length, take, drop, length-append, length-take, length-drop, take
 use lib.Seq.{take-at, drop-at, drop-drop}
 use lib.Dec.{ltb, leb}
 use borrow.Author.Tests.{ltb-false, leb-true, lt-ltb, le-leb}
-use Rattle.base.specs.Cases.{byBool}
+use Rattle.base.specs.Cases.{byBool, never}
 use Rattle.refusal.specs.Answer.{Answer, given, refused}
 use Rattle.number.specs.Stored.{Bytes}
 use Rattle.number.proofs.Laws.{bytes-drop}
 use Rattle.ber.specs.Read.{Read, got, broken, readTag, readLength}
 use Rattle.ber.specs.Written.{tagBytes}
-use Rattle.ber.specs.Forms.{LengthForm, shortForm, longForm}
-use Rattle.ber.proofs.Laws.{TagRead, tag-read, tag-written, LengthRead, length-read, form-read}
+use Rattle.ber.specs.Forms.{LengthForm}
+use Rattle.ber.proofs.Laws.{TagRead, tag-read, tag-written, LengthRead, length-read, form-read, form-some}
 use Rattle.packet.specs.Pieces.{Piece, Item, Step, noTag, noLength, one, afterLength, afterTag, readItem, before, itemAt, onward, walk}
 use Rattle.packet.specs.Allowed.{headOf, ItemsOf, noMore, another}
-
--- two answers that no answer can be at once
-pub never {ℓ} : {C : Type ℓ} → _≡_ {A = ℕ} 0 1 → C
-never e = absurd (omega arith)
 
 -- an item that is read: its tag, a form of its length, and its bytes
 record ItemRead (l : List ℕ) (t h n : ℕ) : Type 0 where
@@ -124,10 +120,6 @@ walk-items (suc n) at l is by e =
         pushed t h m f (walk n (at + (h + m)) (drop (h + m) l)) (λ js. rest _ _ js (bytes-drop (h + m) by)) g
 
 -- an item that stands there is read
-pub form-some : {x : ℕ} {f : List ℕ} → LengthForm x f → 0 < length f
-form-some (shortForm h) = omega arith
-form-some (longForm ds some few) = omega arith
-
 module _ (c : Piece) (form rest : List ℕ) where
   -- a piece, its length in a form, and what follows
   abbrev pub pieceBytes : List ℕ

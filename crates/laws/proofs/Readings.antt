@@ -10,7 +10,7 @@ use lib.ListN.{length}
 use lib.Dec.{eqb}
 use borrow.Author.Tests.{le-ltb}
 use lib.Arith.{digits-mod}
-use Rattle.base.specs.Cases.{byBool}
+use Rattle.base.specs.Cases.{byBool, never}
 use Rattle.base.specs.Every.{Each, both-left}
 use Rattle.refusal.specs.Answer.{Answer, given, refused}
 use Rattle.number.specs.Stored.{Bytes, valueOf, bytesOf}
@@ -24,15 +24,14 @@ use Rattle.knowing.specs.Good.{good}
 use Rattle.packet.specs.Pieces.{Piece, Item, pieces}
 use Rattle.packet.specs.Structure.{structure}
 use Rattle.packet.specs.Judge.{Knowing, Judged, fine, faulty, noVersion, judge}
-use Rattle.packet.specs.Verdict.{placed, verdict, received, counted}
+use Rattle.packet.specs.Verdict.{placed, verdict, counted}
 use Rattle.packet.specs.Encode.{encode, canonical}
 use Rattle.packet.specs.Rows.{shapeFor, kindIn, codeIn, Row, rowOf, rowsOf, sizeOf, bytesAt, pieceOf, piecesOf, tableOf, lentVerdict, readAnswer, tableBy, readTable, rowsIn, SameRow, SameTable, noRows, oneMore}
-use Rattle.laws.proofs.Items.{never}
-use Rattle.laws.proofs.Structure.{passed}
 use Rattle.laws.proofs.Accepted.{accepts, accepting}
 use Rattle.laws.proofs.Written.{sumPiece, SameBut, atLast, further, but-length, judged-alike, length-pieces, Sendable, ReadBack, read-back, written-accepted}
 use Rattle.laws.proofs.Forward.{canonical-is, canonical-back}
-use Rattle.laws.proofs.Sent.{rows-in-table, Lies, formed-lie, bytes-back, SizedFor, piece-back, accepted-sized, accepted-lie, rows-pieces}
+use Rattle.laws.proofs.Tables.{has-read, rows-in-table}
+use Rattle.laws.proofs.Sent.{Lies, formed-lie, bytes-back, SizedFor, piece-back, accepted-sized, accepted-lie, rows-pieces, sentOn, sent-canonical}
 
 -- a row as a receiver gives it to the piece that it stands for; the checksum's code is any
 pub record Made (K : Knowing) (b : List ℕ) (r : Row) : Type 0 where
@@ -159,33 +158,35 @@ knows-sum : (K : TagSet) → good K ≡ true → holds K 1 ≡ true
 unfolding good
 knows-sum K g = both-left (holds K 1) _ g
 
--- demand 3, second half: a packet that some receiver K accepts and sends on, read by any receiver K′ as it came and as it was sent on,
--- with tables of at least 512 words
-module _ (K K′ : TagSet) (p t t′ : List ℕ) (is : List Item) (by : Bytes p) (e : received K p ≡ given is)
+-- a packet whose structure is right, read by any receiver as it came and as it is sent on
+module _ (K : TagSet) (p t t′ : List ℕ) (is : List Item) (by : Bytes p) (found : structure p ≡ given is)
     (long : 512 ≤ length t) (long′ : 512 ≤ length t′) where
-  found : structure p ≡ given is
-  unfolding received
-  found = accepts (holds K) p is (passed (good K) (verdict (holds K) p) 1 0 0 e .1) .found
-
   sent : ReadBack (pieces is)
   sent = canonical-back p is by found
 
-  pub sent-reading : SameReading p (canonical p) (readAnswer K′ p t) (readTable K′ p t) (readAnswer K′ (canonical p) t′) (readTable K′ (canonical p) t′)
+  same-reading : SameReading p (canonical p) (readAnswer K p t) (readTable K p t) (readAnswer K (canonical p) t′) (readTable K (canonical p) t′)
   unfolding readAnswer readTable lentVerdict verdict sent
-  sent-reading =
-      byBool (good K′)
-      (λ g. rw (g, le-ltb (length t) 512 long, le-ltb (length t′) 512 long′, canonical-is p is by found, found, sent .read, ← (judged-alike (holds K′) (sent .same)))
-      (go g (judge (holds K′) (pieces is)) refl))
+  same-reading =
+      byBool (good K)
+      (λ g. rw (g, le-ltb (length t) 512 long, le-ltb (length t′) 512 long′, canonical-is p is by found, found, sent .read, ← (judged-alike (holds K) (sent .same)))
+      (go g (judge (holds K) (pieces is)) refl))
       (λ g. rw g bothRefuse)
     where
-      go : good K′ ≡ true → (j : Judged) → judge (holds K′) (pieces is) ≡ j
-          → SameReading p (encode (pieces is)) (counted (placed is j)) (tableBy (holds K′) t (placed is j))
-          (counted (placed (sent .items) j)) (tableBy (holds K′) t′ (placed (sent .items) j))
+      go : good K ≡ true → (j : Judged) → judge (holds K) (pieces is) ≡ j
+          → SameReading p (encode (pieces is)) (counted (placed is j)) (tableBy (holds K) t (placed is j))
+          (counted (placed (sent .items) j)) (tableBy (holds K) t′ (placed (sent .items) j))
       go g fine f =
           let count : length (sent .items) ≡ length is = sym (length-pieces (sent .items)) ∙ (sym (but-length (sent .same)) ∙ length-pieces is) in
-          let rows : SameTable p (encode (pieces is)) (rowsIn (length is) (tableOf (holds K′) is t)) (rowsIn (length is) (tableOf (holds K′) (sent .items) t′)) =
-          rw (rows-in-table (holds K′) is t _ refl, rows-in-table (holds K′) (sent .items) t′ _ count)
-          (sent-table (holds K′) p is by (knows-sum K′ g) found f) in
+          let rows : SameTable p (encode (pieces is)) (rowsIn (length is) (tableOf (holds K) is t)) (rowsIn (length is) (tableOf (holds K) (sent .items) t′)) =
+          rw (rows-in-table (holds K) is t _ refl, rows-in-table (holds K) (sent .items) t′ _ count)
+          (sent-table (holds K) p is by (knows-sum K g) found f) in
           rw count (bothRead rows)
       go g (faulty k n u) f = bothRefuse
       go g noVersion f = bothRefuse
+
+-- demand 3, second half: a packet that a receiver accepts and sends on is read by every other as it was before
+pub sent-reading : (K K′ : TagSet) (p s t t′ : List ℕ) (n : ℕ) → Bytes p → readAnswer K p s ≡ given n → 512 ≤ length t → 512 ≤ length t′
+    → SameReading p (sentOn K p s n) (readAnswer K′ p t) (readTable K′ p t) (readAnswer K′ (sentOn K p s n) t′) (readTable K′ (sentOn K p s n) t′)
+sent-reading K K′ p s t t′ n by e long long′ =
+    let r = has-read K p s n e in
+    rw (sent-canonical K p s n by e) (same-reading K′ p t t′ (r .items) by (accepts (holds K) p (r .items) (r .accepted) .found) long long′)

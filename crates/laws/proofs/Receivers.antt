@@ -6,7 +6,7 @@ use native.Mathlib.Omega.{arith}
 use mathlib.Core.Path.{_≡_, refl, sym, _∙_}
 use mathlib.Core.Bool.{true, false}
 use mathlib.Core.List.{List, [], _∷_}
-use Rattle.base.specs.Cases.{byBool, byEq, clash}
+use Rattle.base.specs.Cases.{byBool, byEq, clash, never}
 use Rattle.refusal.specs.Answer.{Answer, given, refused}
 use Rattle.tagset.specs.Sets.{holds}
 use Rattle.tagset.specs.declared.TagSet.{TagSet}
@@ -18,7 +18,6 @@ use Rattle.packet.specs.Pieces.{Piece, Item, pieces}
 use Rattle.packet.specs.Structure.{structure}
 use Rattle.packet.specs.Judge.{Knowing, Fault, clean, wrong, faultOf, Judged, faulty, later, onFault, judgeFrom, judge}
 use Rattle.packet.specs.Verdict.{placed, judged, verdict, received}
-use Rattle.laws.proofs.Items.{never}
 
 -- K′ knows all that K knows
 abbrev pub Below : Knowing → Knowing → Type 0

@@ -1,17 +1,16 @@
 -- The rows of an accepted packet, over that packet as the buffer, are its pieces: so whoever accepts it sends the same packet on, and
 -- who gets it reads the same table.
 -- Assumes nothing.
-use Prim.Native.Nat.{ℕ, suc, _+_, _<_}
+use Prim.Native.Nat.{ℕ, suc, _+_, _<_, _≤_}
 use native.Mathlib.Omega.{arith}
 use mathlib.Core.Path.{_≡_, refl, ap, sym, _∙_}
 use mathlib.Core.Bool.{Bool, true}
-use mathlib.Core.List.{List, [], _∷_, _++_}
+use mathlib.Core.List.{List, [], _∷_}
 use lib.ListN.{length, take, drop}
 use lib.Seq.{take-at, drop-drop}
 use lib.Arith.{digits-div, digits-mod}
-use lib.Dec.{ltb}
 use borrow.Author.Tests.{eqb-true}
-use Rattle.base.specs.Cases.{byBool}
+use Rattle.base.specs.Cases.{byBool, never}
 use Rattle.base.specs.Every.{Each}
 use Rattle.refusal.specs.Answer.{given}
 use Rattle.number.specs.Stored.{Bytes, valueOf}
@@ -21,19 +20,18 @@ use Rattle.catalogue.specs.declared.Shape.{Shape}
 use Rattle.catalogue.specs.declared.Shape.the-variants.{Text, Number, Absent}
 use Rattle.tagset.specs.Sets.{holds}
 use Rattle.tagset.specs.declared.TagSet.{TagSet}
-use Rattle.knowing.specs.Good.{good}
 use Rattle.packet.specs.Pieces.{Piece, Item, pieces}
 use Rattle.packet.specs.Judge.{Knowing}
 use Rattle.packet.specs.Verdict.{verdict}
-use Rattle.packet.specs.Rows.{shapeFor, rowOf, rowsOf, words, tableOf, lentVerdict, readAnswer, readTable, rowsIn, bytesAt, valueIn, pieceOf, piecesOf}
+use Rattle.packet.specs.Rows.{shapeFor, rowOf, rowsOf, readAnswer, readTable, rowsIn, bytesAt, valueIn, pieceOf, piecesOf}
 use Rattle.packet.specs.Encode.{encode, canonical}
 use Rattle.packet.specs.Allowed.{headOf, ItemsOf, noMore, another, Formed, pieceAt}
-use Rattle.laws.proofs.Items.{never, pieceBytes, after-head, after-piece, piece-length}
-use Rattle.laws.proofs.Structure.{passed, missed, structure-formed, formed-length, formed-body}
+use Rattle.laws.proofs.Items.{pieceBytes, after-head, after-piece, piece-length}
+use Rattle.laws.proofs.Structure.{structure-formed, formed-length, formed-body}
 use Rattle.laws.proofs.Clean.{fine-clean}
 use Rattle.laws.proofs.Accepted.{accepts}
-use Rattle.laws.proofs.Tables.{given-count}
-use Rattle.laws.proofs.Forward.{canonical-is}
+use Rattle.laws.proofs.Tables.{has-read, rows-in-table}
+use Rattle.laws.proofs.Forward.{canonical-is, forward-shorter}
 
 -- an item lies in the packet where it says
 pub record Lies (p : List ℕ) (i : Item) : Type 0 where
@@ -116,24 +114,17 @@ module _ (K : Knowing) (p : List ℕ) (is : List Item) (by : Bytes p) (e : verdi
   pub sent-on : encode (piecesOf K p (rowsOf K is)) ≡ canonical p
   sent-on = rw (rows-pieces, canonical-is p is by (accepts K p is e .found))
 
--- a receiver with a good set and a table of at least 512 words
-table-rows : (K : Knowing) (is : List Item) (rest : List ℕ) → rowsIn (length is) (words (rowsOf K is) ++ rest) ≡ rowsOf K is
-unfolding words rowsOf rowsIn
-table-rows K [] rest = refl
-table-rows K (i ∷ is) rest = ap (λ rs. rowOf K i ∷ rs) (table-rows K is rest)
-
-pub rows-in-table : (K : Knowing) (is : List Item) (t : List ℕ) (n : ℕ) → length is ≡ n → rowsIn n (tableOf K is t) ≡ rowsOf K is
-unfolding tableOf
-rows-in-table K is t n e = rw (← e) (table-rows K is _)
+-- "sending on is reading and then writing all rows, the packet being the buffer": of n rows, read into the table t
+abbrev pub sentOn : TagSet → List ℕ → List ℕ → ℕ → List ℕ
+sentOn K p t n = encode (piecesOf (holds K) p (rowsIn n (readTable K p t)))
 
 module _ (K : TagSet) (p t : List ℕ) (n : ℕ) (by : Bytes p) (e : readAnswer K p t ≡ given n) where
-  -- reading and then writing all rows of the table, the packet being the buffer, gives the packet as it is sent on
-  pub sent-from-table : encode (piecesOf (holds K) p (rowsIn n (readTable K p t))) ≡ canonical p
-  unfolding readAnswer readTable lentVerdict
-  sent-from-table = let c = given-count (lentVerdict K p t) n e in go (c .0) (c .1) (c .2)
-    where
-      go : (is : List Item) → lentVerdict K p t ≡ given is → length is ≡ n → encode (piecesOf (holds K) p (rowsIn n (readTable K p t))) ≡ canonical p
-      go is f l =
-          let g = passed (good K) _ 1 0 0 f in
-          let h = missed (ltb (length t) 512) _ 2 0 0 (g .1) in
-          rw (f, rows-in-table (holds K) is t n l) (sent-on (holds K) p is by (h .1))
+  -- what is sent on does not depend on who sends
+  pub sent-canonical : sentOn K p t n ≡ canonical p
+  sent-canonical =
+      let r = has-read K p t n e in
+      rw (r .table, rows-in-table (holds K) (r .items) t n (r .count)) (sent-on (holds K) p (r .items) by (r .accepted))
+
+  -- and is never longer
+  pub sent-shorter : length (sentOn K p t n) ≤ length p
+  sent-shorter = let r = has-read K p t n e in rw sent-canonical (forward-shorter (holds K) p (r .items) by (r .accepted))

@@ -9,7 +9,7 @@ use lib.ListN.{length, take, drop, length-append, length-take, length-drop, take
 use lib.Seq.{take-at, drop-at, drop-drop}
 use lib.Dec.{ltb, eqb}
 use borrow.Author.Tests.{ltb-false, le-ltb, eqb-true, eq-eqb}
-use Rattle.base.specs.Cases.{clash}
+use Rattle.base.specs.Cases.{never}
 use Rattle.base.specs.Every.{both-left, both-right}
 use Rattle.refusal.specs.Answer.{Answer, given, refused}
 use Rattle.number.specs.Stored.{Bytes, valueOf}
@@ -21,21 +21,8 @@ use Rattle.checksum.specs.Sum.{checksumOf}
 use Rattle.packet.specs.Pieces.{Item, walk}
 use Rattle.packet.specs.Structure.{key, same, lastOf, isChecksum, lastly, ends, afterOuter, structure}
 use Rattle.packet.specs.Allowed.{ItemsOf, Formed}
-use Rattle.laws.proofs.Items.{never, endOf, items-end, end-last, Walked, walk-items, items-walk}
-
--- the key, compared byte by byte
-same-self : (l : List ℕ) → same l l ≡ true
-same-self [] = refl
-same-self (a ∷ l) = rw (eq-eqb a a refl) (same-self l)
-
-same-means : (l m : List ℕ) → same l m ≡ true → l ≡ m
-same-means [] [] e = refl
-same-means [] (b ∷ m) e = clash (sym e)
-same-means (a ∷ l) [] e = clash (sym e)
-same-means (a ∷ l) (b ∷ m) e =
-    let f : a ≡ b = eqb-true a b (both-left (eqb a b) (same l m) e) in
-    let g : l ≡ m = same-means l m (both-right (eqb a b) (same l m) e) in
-    cc
+use Rattle.packet.proofs.Keys.{same-eq, same-refl}
+use Rattle.laws.proofs.Items.{endOf, items-end, end-last, Walked, walk-items, items-walk}
 
 pub length-key : length key ≡ 16
 unfolding key
@@ -98,7 +85,7 @@ module _ (p : List ℕ) (is : List Item) (by : Bytes p) where
   structure-formed e =
       let a = missed (ltb 8192 (length p)) _ 3 0 0 e in
       let b = passed (same (take 16 p) key) _ 4 0 0 (a .1) in
-      outer (ltb-false _ _ (a .0)) (same-means (take 16 p) key (b .0)) (readLength (drop 16 p)) refl (b .1)
+      outer (ltb-false _ _ (a .0)) (same-eq (take 16 p) key (b .0)) (readLength (drop 16 p)) refl (b .1)
     where
       inner : length p ≤ 8192 → take 16 p ≡ key → (n s : ℕ) → readLength (drop 16 p) ≡ got n s → length p ≡ 16 + s + n
           → (w : Answer (List Item)) → walk 128 (16 + s) (drop (16 + s) p) ≡ w → ends p w ≡ given is → Formed p is
@@ -149,7 +136,7 @@ module _ (p : List ℕ) (is : List Item) (f : Formed p is) where
       rw (
         le-ltb 8192 (length p) (f .small),
         keyed,
-        same-self key,
+        same-refl key,
         after-key,
         form-read (f .outer) (f .body),
         eq-eqb _ _ formed-length,

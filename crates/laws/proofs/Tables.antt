@@ -2,11 +2,13 @@
 -- Assumes nothing.
 use Prim.Native.Nat.{ℕ, zero, suc, _+_, _*_, _<_, _≤_}
 use native.Mathlib.Omega.{arith}
-use mathlib.Core.Path.{_≡_, refl, ap, sym, _∙_}
+use mathlib.Core.Path.{_≡_, refl, ap, _∙_}
 use mathlib.Core.Bool.{true, false}
 use mathlib.Core.List.{List, [], _∷_, _++_}
 use lib.ListN.{length, getD}
+use lib.Dec.{ltb}
 use borrow.Author.Tests.{le-ltb}
+use Rattle.base.specs.Cases.{never}
 use Rattle.refusal.specs.Answer.{Answer, given, refused}
 use Rattle.tagset.specs.Sets.{holds}
 use Rattle.tagset.specs.declared.TagSet.{TagSet}
@@ -14,10 +16,10 @@ use Rattle.tagset.proofs.Laws.{Included}
 use Rattle.knowing.specs.Good.{good}
 use Rattle.packet.specs.Pieces.{Item}
 use Rattle.packet.specs.Judge.{Knowing}
-use Rattle.packet.specs.Verdict.{counted, received}
-use Rattle.packet.specs.Rows.{shapeFor, Row, rowOf, rowsOf, words, tableOf, lentVerdict, readAnswer, readTable, rowIn}
-use Rattle.laws.proofs.Items.{never}
-use Rattle.laws.proofs.Receivers.{Below, Only, received-larger, received-only}
+use Rattle.packet.specs.Verdict.{counted, verdict}
+use Rattle.packet.specs.Rows.{shapeFor, Row, rowOf, rowsOf, words, tableOf, lentVerdict, readAnswer, readTable, rowIn, rowsIn}
+use Rattle.laws.proofs.Structure.{passed, missed}
+use Rattle.laws.proofs.Receivers.{Below, Only, larger-accepts, larger-refuses}
 
 abbrev itemIn : List Item → ℕ → Item
 itemIn is k = getD is k (record { start = 0; place = 0; piece = record { tag = 0; value = [] } })
@@ -48,28 +50,57 @@ row-in K (i ∷ is) rest (suc k) h =
     let some : (n : ℕ) → suc (suc (suc (suc (4 * k)))) + n ≡ suc (suc (suc (suc (4 * k + n)))) = λ n. omega arith in
     rw (none, some 1, some 2, some 3) (row-in K is rest k (omega arith))
 
--- a receiver with a good set and a table of at least 512 words answers as one that is lent none
+row-in-table : (K : Knowing) (is : List Item) (t : List ℕ) (k : ℕ) → k < length is → rowIn (tableOf K is t) k ≡ rowOf K (itemIn is k)
+unfolding tableOf
+row-in-table K is t k h = row-in K is _ k h
+
+all-rows-in : (K : Knowing) (is : List Item) (rest : List ℕ) → rowsIn (length is) (words (rowsOf K is) ++ rest) ≡ rowsOf K is
+unfolding words rowsOf rowsIn
+all-rows-in K [] rest = refl
+all-rows-in K (i ∷ is) rest = ap (λ rs. rowOf K i ∷ rs) (all-rows-in K is rest)
+
+pub rows-in-table : (K : Knowing) (is : List Item) (t : List ℕ) (n : ℕ) → length is ≡ n → rowsIn n (tableOf K is t) ≡ rowsOf K is
+unfolding tableOf
+rows-in-table K is t n e = rw (← e) (all-rows-in K is _)
+
+-- what a receiver that answers a count has read
+pub record HasRead (K : TagSet) (p t : List ℕ) (n : ℕ) : Type 0 where
+  pub items : List Item
+  pub count : length items ≡ n
+  pub accepted : verdict (holds K) p ≡ given items
+  pub table : readTable K p t ≡ tableOf (holds K) items t
+
+pub has-read : (K : TagSet) (p t : List ℕ) (n : ℕ) → readAnswer K p t ≡ given n → HasRead K p t n
+unfolding readAnswer readTable lentVerdict
+has-read K p t n e = go (lentVerdict K p t) refl e
+  where
+    go : (a : Answer (List Item)) → lentVerdict K p t ≡ a → counted a ≡ given n → HasRead K p t n
+    go (given is) f c =
+        let g = passed (good K) _ 1 0 0 f in
+        record { items = is; count = cc; accepted = missed (ltb (length t) 512) _ 2 0 0 (g .1) .1; table = rw f }
+    go (refused m a u) f c = never (cc)
+
+-- a receiver with a good set and a table of at least 512 words answers its verdict
 module _ (K : TagSet) (p t : List ℕ) (g : good K ≡ true) (long : 512 ≤ length t) where
-  pub lent-received : lentVerdict K p t ≡ received K p
-  unfolding lentVerdict received
-  lent-received = rw (g, le-ltb (length t) 512 long)
+  pub lent-verdict : lentVerdict K p t ≡ verdict (holds K) p
+  unfolding lentVerdict
+  lent-verdict = rw (g, le-ltb (length t) 512 long)
 
-  read-answer : readAnswer K p t ≡ counted (received K p)
+  answer-given : (is : List Item) → verdict (holds K) p ≡ given is → readAnswer K p t ≡ given (length is)
   unfolding readAnswer
-  read-answer = ap counted lent-received
+  answer-given is e = rw (lent-verdict, e)
 
-  row-read : (is : List Item) → received K p ≡ given is → (k : ℕ) → k < length is → rowIn (readTable K p t) k ≡ rowOf (holds K) (itemIn is k)
-  unfolding readTable tableOf
-  row-read is e k h = rw (lent-received, e) (row-in (holds K) is _ k h)
+  table-given : (is : List Item) → verdict (holds K) p ≡ given is → readTable K p t ≡ tableOf (holds K) is t
+  unfolding readTable
+  table-given is e = rw (lent-verdict, e)
 
--- what was counted
-pub given-count : (a : Answer (List Item)) (n : ℕ) → counted a ≡ given n → (is : List Item) × (a ≡ given is) × (length is ≡ n)
-given-count (given is) n e = (is, refl, cc)
-given-count (refused m p t) n e = never (cc)
-
-refused-count : (a : Answer (List Item)) (n p t : ℕ) → counted a ≡ refused n p t → a ≡ refused n p t
-refused-count (given is) n p t e = never (cc)
-refused-count (refused m q u) n p t e = cc
+  answer-refused : (n a u : ℕ) → readAnswer K p t ≡ refused n a u → verdict (holds K) p ≡ refused n a u
+  unfolding readAnswer
+  answer-refused n a u e = go (verdict (holds K) p) (rw lent-verdict at e)
+    where
+      go : (x : Answer (List Item)) → counted x ≡ refused n a u → x ≡ refused n a u
+      go (given is) f = never (cc)
+      go (refused m b v) f = cc
 
 -- the row that K gives, beside the row that K′ gives to the same item
 pub record SmallerRow (K : Knowing) (r r′ : Row) : Type 0 where
@@ -79,24 +110,26 @@ pub record SmallerRow (K : Knowing) (r r′ : Row) : Type 0 where
 -- two good sets, one included in the other, and two tables of at least 512 words
 module _ (K K′ : TagSet) (g : good K ≡ true) (g′ : good K′ ≡ true) (within : Included K K′)
     (p t t′ : List ℕ) (long : 512 ≤ length t) (long′ : 512 ≤ length t′) where
+  smaller : (n : ℕ) (r : HasRead K′ p t′ n) → verdict (holds K) p ≡ given (r .items)
+  smaller n r = larger-accepts (holds K) (holds K′) (within .each) p (r .items) (r .accepted)
+
   -- a packet that the larger accepts the smaller accepts, with as many rows
   pub read-larger : (n : ℕ) → readAnswer K′ p t′ ≡ given n → readAnswer K p t ≡ given n
-  read-larger n e =
-      let (is, f, l) = given-count _ n (sym (read-answer K′ p t′ g′ long′) ∙ e) in
-      read-answer K p t g long ∙ (ap counted (received-larger K K′ g g′ within p is f) ∙ ap given l)
+  read-larger n e = let r = has-read K′ p t′ n e in answer-given K p t g long (r .items) (smaller n r) ∙ ap given (r .count)
 
   -- the same row for every item whose tag the smaller knows, a carried one with the same place and length for every other
   pub read-rows : (n k : ℕ) → readAnswer K′ p t′ ≡ given n → k < n → SmallerRow (holds K) (rowIn (readTable K p t) k) (rowIn (readTable K′ p t′) k)
   unfolding rowOf
   read-rows n k e h =
-      let (is, f, l) = given-count _ n (sym (read-answer K′ p t′ g′ long′) ∙ e) in
+      let r = has-read K′ p t′ n e in
+      let is : List Item = r .items in
+      let l : k < length is = omega (arith, r .count) in
       let i : Item = itemIn is k in
-      let r = row-read K p t g long is (received-larger K K′ g g′ within p is f) k (omega arith) in
-      let r′ = row-read K′ p t′ g′ long′ is f k (omega arith) in
-      rw (r, r′) (record { known = known-row (holds K) (holds K′) i (within .each); unknown = unknown-row (holds K) (holds K′) i })
+      rw (table-given K p t g long is (smaller n r), r .table, row-in-table (holds K) is t k l, row-in-table (holds K′) is t′ k l)
+      (record { known = known-row (holds K) (holds K′) i (within .each); unknown = unknown-row (holds K) (holds K′) i })
 
   -- where only the larger refuses, it does so at a tag that only it knows
   pub read-only : (n m a u : ℕ) → readAnswer K p t ≡ given n → readAnswer K′ p t′ ≡ refused m a u → Only (holds K) (holds K′) u
   read-only n m a u e f =
-      let (is, h, l) = given-count _ n (sym (read-answer K p t g long) ∙ e) in
-      received-only K K′ g g′ within p is m a u h (refused-count _ m a u (sym (read-answer K′ p t′ g′ long′) ∙ f))
+      let r = has-read K p t n e in
+      larger-refuses (holds K) (holds K′) (within .each) p (r .items) m a u (r .accepted) (answer-refused K′ p t′ g′ long′ m a u f)
