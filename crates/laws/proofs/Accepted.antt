@@ -20,6 +20,7 @@ pub record Accepts (K : Knowing) (p : List ℕ) (is : List Item) : Type 0 where
   pub faultless : judge K (pieces is) ≡ fine
 
 module _ (K : Knowing) (p : List ℕ) (is : List Item) where
+  -- who accepts has found the items and no fault in them, and the other way round
   pub accepts : verdict K p ≡ given is → Accepts K p is
   unfolding verdict
   accepts e = go (structure p) refl e

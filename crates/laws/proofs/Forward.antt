@@ -24,7 +24,7 @@ use Rattle.packet.specs.Allowed.{ItemsOf, noMore, another, Formed}
 use Rattle.laws.proofs.Items.{piece-length}
 use Rattle.laws.proofs.Structure.{passed, structure-formed, formed-length}
 use Rattle.laws.proofs.Accepted.{accepts}
-use Rattle.laws.proofs.Written.{length-item, length-pieces, Tagged, SameBut, judged-alike, Sendable, length-encode, ReadBack, read-back}
+use Rattle.laws.proofs.Written.{length-item, length-pieces, Tagged, SameBut, judged-alike, Sendable, length-encode, ReadBack, read-back, encode-bytes}
 
 -- an item that stands there can be written
 items-tagged : {at : ℕ} {l : List ℕ} {is : List Item} → ItemsOf at l is → Each Tagged (pieces is)
@@ -46,6 +46,13 @@ items-shorter (another {is} c form rest some small f i) by =
       length-append (itemBytes c) (itemsBytes (pieces is)),
       length-item c,
     )
+
+-- its value is bytes
+items-values : {at : ℕ} {l : List ℕ} {is : List Item} → ItemsOf at l is → Bytes l → Each (λ c. Bytes (c .value)) (pieces is)
+items-values noMore by = tt
+items-values (another c form rest some small f i) by =
+    let after : Bytes (c .value ++ rest) = bytes-right form _ (bytes-right (tagBytes (c .tag)) _ by) in
+    (bytes-left (c .value) rest after, items-values i (bytes-right (c .value) rest after))
 
 pieces-append : (is js : List Item) → pieces (is ++ js) ≡ pieces is ++ pieces js
 pieces-append [] js = refl
@@ -93,16 +100,26 @@ pub data Alike : Answer (List Item) → Answer (List Item) → Type 0 where
 
 -- a packet whose structure is right
 module _ (p : List ℕ) (is : List Item) (by : Bytes p) (e : structure p ≡ given is) where
+  -- what is sent on is the packet's pieces, written
   pub canonical-is : canonical p ≡ encode (pieces is)
   unfolding canonical
   canonical-is = rw e
 
+  -- and is read back
   pub canonical-back : ReadBack (pieces is)
   canonical-back = read-back (pieces is) (sendable p is by (structure-formed p is by e))
 
   -- what is sent on is never longer
   pub canonical-shorter : length (canonical p) ≤ length p
   canonical-shorter = rw canonical-is (encode-shorter p is by (structure-formed p is by e))
+
+  -- it is bytes
+  pub canonical-bytes : Bytes (canonical p)
+  canonical-bytes =
+      let f = structure-formed p is by e in
+      let inside : Bytes (f .body) = bytes-right (f .form) _ (body-bytes p is by f) in
+      rw canonical-is (encode-bytes (pieces is) (items-tagged (f .items)) (items-values (f .items) inside)
+      (omega (arith, items-shorter (f .items) inside, formed-length p is f, f .small)))
 
   -- whoever gets what is sent on gives it the verdict that it gives the packet, up to places
   pub canonical-alike : (K : Knowing) → Alike (verdict K p) (verdict K (canonical p))
@@ -119,14 +136,16 @@ module _ (p : List ℕ) (is : List Item) (by : Bytes p) (e : structure p ≡ giv
   unfolding canonical
   canonical-twice = rw (e, canonical-back .read) (canonical-back .again)
 
--- a packet that some receiver accepts, whoever it is
+-- a packet that some receiver accepts, whoever it is: what is sent on is never longer
 module _ (K : Knowing) (p : List ℕ) (is : List Item) (by : Bytes p) (e : verdict K p ≡ given is) where
   pub forward-shorter : length (canonical p) ≤ length p
   forward-shorter = canonical-shorter p is by (accepts K p is e .found)
 
+  -- every other gives it the verdict that it gives the packet, up to places
   pub forward-alike : (K′ : Knowing) → Alike (verdict K′ p) (verdict K′ (canonical p))
   forward-alike = canonical-alike p is by (accepts K p is e .found)
 
+  -- and sends it on as it is
   pub forward-twice : canonical (canonical p) ≡ canonical p
   forward-twice = canonical-twice p is by (accepts K p is e .found)
 

@@ -128,6 +128,10 @@ unfolding rowsOf
 made-rows K p [] by l s = tt
 made-rows K p (i ∷ is) by l s = (made-row K p i by (l .0) (s .0), made-rows K p is by (l .1) (s .1))
 
+-- so they can be written again
+pub rows-made : (K : Knowing) (p : List ℕ) (is : List Item) → Bytes p → verdict K p ≡ given is → Each (Made K p) (rowsOf K is)
+rows-made K p is by e = made-rows K p is by (accepted-lie K p is by e) (accepted-sized K p is by e)
+
 -- what is sent on gives the same table as the packet
 module _ (K : Knowing) (p : List ℕ) (is : List Item) (by : Bytes p) (k : K 1 ≡ true) where
   sent-table : (f : structure p ≡ given is) → judge K (pieces is) ≡ fine
@@ -136,7 +140,7 @@ module _ (K : Knowing) (p : List ℕ) (is : List Item) (by : Bytes p) (k : K 1 �
       let back = canonical-back p is by f in
       let e : verdict K p ≡ given is = accepting K p is (record { found = f; faultless = j }) in
       same-table K p (encode (pieces is)) k (back .same) (rowsOf K is) (back .items) (rows-pieces K p is by e) refl
-      (made-rows K p is by (accepted-lie K p is by e) (accepted-sized K p is by e)) (formed-lie _ (back .items) (back .formed))
+      (rows-made K p is by e) (formed-lie _ (back .items) (back .formed))
 
   pub forward-table : verdict K p ≡ given is → (js : List Item) × (verdict K (canonical p) ≡ given js) × SameTable p (canonical p) (rowsOf K is) (rowsOf K js)
   forward-table e =

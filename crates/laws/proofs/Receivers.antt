@@ -103,16 +103,19 @@ no-zero : inCatalogue 0 ≡ false
 unfolding groups member itemIn itemOf inCatalogue
 no-zero = refl
 
--- two good knowing sets of words
+-- demand 3, first half: two good knowing sets of words, one included in the other
 module _ (K K′ : TagSet) (g : good K ≡ true) (g′ : good K′ ≡ true) (within : Included K K′) where
+  -- the same answer, or the larger refuses at a tag that only it knows
   pub two-received : (p : List ℕ) → Two (holds K) (holds K′) (received K p) (received K′ p)
   unfolding received
   two-received p = rw (g, g′) (two-verdicts (holds K) (holds K′) (within .each) p)
 
   module _ (p : List ℕ) (is : List Item) where
+    -- a packet that the larger set accepts the smaller accepts, with the same items
     pub received-larger : received K′ p ≡ given is → received K p ≡ given is
     received-larger e = two-given (two-received p) e
 
+    -- a packet that only the larger refuses it refuses at a tag that only it knows
     pub received-only : (n a t : ℕ) → received K p ≡ given is → received K′ p ≡ refused n a t → Only (holds K) (holds K′) t
     received-only n a t e f = two-refused (two-received p) e f
 
