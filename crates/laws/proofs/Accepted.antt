@@ -2,16 +2,20 @@
 -- Assumes nothing.
 use Prim.Native.Nat.{ℕ}
 use mathlib.Core.Path.{_≡_, refl}
+use mathlib.Core.Bool.{true}
 use mathlib.Core.List.{List}
 use Rattle.base.specs.Cases.{never}
 use Rattle.refusal.specs.Answer.{Answer, given, refused}
 use Rattle.number.specs.Stored.{Bytes}
+use Rattle.tagset.specs.Sets.{holds}
+use Rattle.tagset.specs.declared.TagSet.{TagSet}
+use Rattle.knowing.specs.Good.{good}
 use Rattle.packet.specs.Pieces.{Item, pieces}
 use Rattle.packet.specs.Structure.{structure}
 use Rattle.packet.specs.Judge.{Knowing, Judged, fine, faulty, noVersion, judge}
-use Rattle.packet.specs.Verdict.{placed, judged, verdict}
+use Rattle.packet.specs.Verdict.{placed, judged, verdict, received}
 use Rattle.packet.specs.Allowed.{Allowed}
-use Rattle.laws.proofs.Structure.{structure-formed, formed-structure}
+use Rattle.laws.proofs.Structure.{passed, structure-formed, formed-structure}
 use Rattle.laws.proofs.Clean.{fine-clean, clean-fine}
 
 -- accepting is finding the items, and no fault in them
@@ -47,6 +51,20 @@ module _ (K : Knowing) (p : List ℕ) (is : List Item) where
   -- what is allowed a receiver accepts
   pub allowed-accepted : Allowed K p is → verdict K p ≡ given is
   allowed-accepted a = accepting (record { found = formed-structure p is (a .formed); faultless = clean-fine K (pieces is) (a .clean) })
+
+-- the same over knowing sets of words
+module _ (K : TagSet) (p : List ℕ) (is : List Item) where
+  -- what is received is allowed, and the set is good
+  pub received-allowed : Bytes p → received K p ≡ given is → (good K ≡ true) × Allowed (holds K) p is
+  unfolding received
+  received-allowed by e =
+      let g = passed (good K) (verdict (holds K) p) 1 0 0 e in
+      (g .0, accepted-allowed (holds K) p is by (g .1))
+
+  -- what is allowed is received by whoever has a good set
+  pub allowed-received : good K ≡ true → Allowed (holds K) p is → received K p ≡ given is
+  unfolding received
+  allowed-received g a = rw g (allowed-accepted (holds K) p is a)
 
 -- a packet has one reading: no rule leaves a choice of its items
 pub one-reading : (K K′ : Knowing) (p : List ℕ) (is js : List Item) → Allowed K p is → Allowed K′ p js → is ≡ js

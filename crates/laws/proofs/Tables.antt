@@ -7,9 +7,10 @@ use mathlib.Core.Bool.{true, false}
 use mathlib.Core.List.{List, [], _∷_, _++_}
 use lib.ListN.{length, getD}
 use lib.Dec.{ltb}
-use borrow.Author.Tests.{le-ltb}
+use borrow.Author.Tests.{ltb-false, le-ltb}
 use Rattle.base.specs.Cases.{never}
 use Rattle.refusal.specs.Answer.{Answer, given, refused}
+use Rattle.number.specs.Stored.{Bytes}
 use Rattle.tagset.specs.Sets.{holds}
 use Rattle.tagset.specs.declared.TagSet.{TagSet}
 use Rattle.tagset.proofs.Laws.{Included}
@@ -17,8 +18,10 @@ use Rattle.knowing.specs.Good.{good}
 use Rattle.packet.specs.Pieces.{Item}
 use Rattle.packet.specs.Judge.{Knowing}
 use Rattle.packet.specs.Verdict.{counted, verdict}
+use Rattle.packet.specs.Allowed.{Allowed}
 use Rattle.packet.specs.Rows.{shapeFor, Row, rowOf, rowsOf, words, tableOf, lentVerdict, readAnswer, readTable, rowIn, rowsIn}
 use Rattle.laws.proofs.Structure.{passed, missed}
+use Rattle.laws.proofs.Accepted.{accepted-allowed, allowed-accepted}
 use Rattle.laws.proofs.Receivers.{Below, Only, larger-accepts, larger-refuses}
 
 abbrev itemIn : List Item → ℕ → Item
@@ -63,10 +66,12 @@ pub rows-in-table : (K : Knowing) (is : List Item) (t : List ℕ) (n : ℕ) → 
 unfolding tableOf
 rows-in-table K is t n e = rw (← e) (all-rows-in K is _)
 
--- what a receiver that answers a count has read
+-- what a receiver that answers a count has read: its set is good, its table long enough, and the table's rows are the items' own
 pub record HasRead (K : TagSet) (p t : List ℕ) (n : ℕ) : Type 0 where
   pub items : List Item
   pub count : length items ≡ n
+  pub right : good K ≡ true
+  pub long : 512 ≤ length t
   pub accepted : verdict (holds K) p ≡ given items
   pub table : readTable K p t ≡ tableOf (holds K) items t
 
@@ -77,10 +82,11 @@ has-read K p t n e = go (lentVerdict K p t) refl e
     go : (a : Answer (List Item)) → lentVerdict K p t ≡ a → counted a ≡ given n → HasRead K p t n
     go (given is) f c =
         let g = passed (good K) _ 1 0 0 f in
-        record { items = is; count = cc; accepted = missed (ltb (length t) 512) _ 2 0 0 (g .1) .1; table = rw f }
+        let h = missed (ltb (length t) 512) _ 2 0 0 (g .1) in
+        record { items = is; count = cc; right = g .0; long = ltb-false _ _ (h .0); accepted = h .1; table = rw f }
     go (refused m a u) f c = never (cc)
 
--- a receiver with a good set and a table of at least 512 words answers its verdict
+-- a good set and a table of at least 512 words
 module _ (K : TagSet) (p t : List ℕ) (g : good K ≡ true) (long : 512 ≤ length t) where
   pub lent-verdict : lentVerdict K p t ≡ verdict (holds K) p
   unfolding lentVerdict
@@ -94,6 +100,10 @@ module _ (K : TagSet) (p t : List ℕ) (g : good K ≡ true) (long : 512 ≤ len
   unfolding readTable
   table-given is e = rw (lent-verdict, e)
 
+  -- who has a good set and a table of at least 512 words reads every packet that is allowed
+  pub allowed-read : (is : List Item) → Allowed (holds K) p is → (readAnswer K p t ≡ given (length is)) × (readTable K p t ≡ tableOf (holds K) is t)
+  allowed-read is a = let e = allowed-accepted (holds K) p is a in (answer-given is e, table-given is e)
+
   answer-refused : (n a u : ℕ) → readAnswer K p t ≡ refused n a u → verdict (holds K) p ≡ refused n a u
   unfolding readAnswer
   answer-refused n a u e = go (verdict (holds K) p) (rw lent-verdict at e)
@@ -101,6 +111,10 @@ module _ (K : TagSet) (p t : List ℕ) (g : good K ≡ true) (long : 512 ≤ len
       go : (x : Answer (List Item)) → counted x ≡ refused n a u → x ≡ refused n a u
       go (given is) f = never (cc)
       go (refused m b v) f = cc
+
+-- who answers a count reads what is allowed
+pub read-allowed : (K : TagSet) (p t : List ℕ) (n : ℕ) → Bytes p → readAnswer K p t ≡ given n → (is : List Item) × (length is ≡ n) × Allowed (holds K) p is
+read-allowed K p t n by e = let r = has-read K p t n e in (r .items, r .count, accepted-allowed (holds K) p (r .items) by (r .accepted))
 
 -- the row that K gives, beside the row that K′ gives to the same item
 pub record SmallerRow (K : Knowing) (r r′ : Row) : Type 0 where
