@@ -1,7 +1,7 @@
 -- Who reads what was written or sent on reads the same table: the same count, tags, kinds, codes, lengths and value bytes, places and the
 -- checksum's code aside.
 -- Assumes nothing.
-use Prim.Native.Nat.{ℕ, _-_, _*_, _^_, _<_, _≤_}
+use Prim.Native.Nat.{ℕ, _<_, _≤_}
 use native.Mathlib.Omega.{arith}
 use mathlib.Core.Path.{_≡_, refl, ap, sym, _∙_}
 use mathlib.Core.Bool.{Bool, true, _&&_}
@@ -26,7 +26,9 @@ use Rattle.packet.specs.Structure.{structure}
 use Rattle.packet.specs.Judge.{Knowing, Judged, fine, faulty, noVersion, judge}
 use Rattle.packet.specs.Verdict.{placed, verdict, counted}
 use Rattle.packet.specs.Encode.{encode, canonical}
-use Rattle.packet.specs.Rows.{shapeFor, kindIn, codeIn, Row, rowOf, rowsOf, sizeOf, bytesAt, pieceOf, piecesOf, tableOf, lentVerdict, readAnswer, tableBy, readTable, rowsIn, SameRow, SameTable, noRows, oneMore}
+use Rattle.rows.specs.Kinds.{shapeFor, kindIn, codeIn, Row, markCode}
+use Rattle.rows.specs.Taken.{spotLength}
+use Rattle.packet.specs.Rows.{rowOf, rowsOf, bytesAt, pieceOf, piecesOf, tableOf, lentVerdict, readAnswer, tableBy, readTable, rowsIn, SameRow, SameTable, noRows, oneMore}
 use Rattle.laws.proofs.Accepted.{accepts, accepting}
 use Rattle.laws.proofs.Written.{sumPiece, SameBut, atLast, further, but-length, judged-alike, length-pieces, Sendable, ReadBack, read-back, written-accepted}
 use Rattle.laws.proofs.Forward.{canonical-is, canonical-back}
@@ -37,17 +39,17 @@ use Rattle.laws.proofs.Sent.{Lies, formed-lie, bytes-back, SizedFor, pi
 pub record Made (K : Knowing) (b : List ℕ) (r : Row) : Type 0 where
   pub kind : r .kind ≡ kindIn (shapeFor K (r .tag)) (valueOf (pieceOf K b r .value))
   pub code : (r .tag ≡ 1 → ⊥) → r .code ≡ codeIn (shapeFor K (r .tag)) (valueOf (pieceOf K b r .value))
-  pub size : sizeOf r ≡ length (pieceOf K b r .value)
+  pub size : spotLength (r .spot) ≡ length (pieceOf K b r .value)
 
 -- a number's row points at nothing
 no-place : (width : ℕ) (marked : Bool) (code : ℕ) → 2 < kindIn (Number width marked) code → ⊥
 no-place width marked code h =
-    byBool (marked && eqb code (2 ^ (8 * width - 1)))
+    byBool (marked && eqb code (markCode width))
     (λ e. let z : 2 < 2 = rw e at h in omega arith)
     (λ e. let z : 2 < 1 = rw e at h in omega arith)
 
 module _ (K : Knowing) (b q : List ℕ) where
-  row-size : (j : Item) → Lies q j → sizeOf (rowOf K j) ≡ length (j .piece .value)
+  row-size : (j : Item) → Lies q j → spotLength (rowOf K j .spot) ≡ length (j .piece .value)
   unfolding rowOf
   row-size j l = digits-mod (j .place) (l .short)
 
@@ -155,7 +157,7 @@ module _ (K : Knowing) (p : List ℕ) (is : List Item) (by : Bytes p) (k : K 1 �
 -- two readings up to places: the same refusal and tag, or the same count and the same table
 pub data SameReading (p q : List ℕ) : Answer ℕ → List ℕ → Answer ℕ → List ℕ → Type 0 where
   bothRefuse : {n t a b : ℕ} {l m : List ℕ} → SameReading p q (refused n a t) l (refused n b t) m
-  bothRead : {n : ℕ} {l m : List ℕ} → SameTable p q (rowsIn n l) (rowsIn n m) → SameReading p q (given n) l (given n) m
+  bothRead : {n : ℕ} {l m : List ℕ} → SameTable p q (rowsIn 0 n l) (rowsIn 0 n m) → SameReading p q (given n) l (given n) m
 
 -- who has a good set knows the checksum
 knows-sum : (K : TagSet) → good K ≡ true → holds K 1 ≡ true
@@ -181,7 +183,7 @@ module _ (K : TagSet) (p t t′ : List ℕ) (is : List Item) (by : Bytes p) (fou
           (counted (placed (sent .items) j)) (tableBy (holds K) t′ (placed (sent .items) j))
       go g fine f =
           let count : length (sent .items) ≡ length is = sym (length-pieces (sent .items)) ∙ (sym (but-length (sent .same)) ∙ length-pieces is) in
-          let rows : SameTable p (encode (pieces is)) (rowsIn (length is) (tableOf (holds K) is t)) (rowsIn (length is) (tableOf (holds K) (sent .items) t′)) =
+          let rows : SameTable p (encode (pieces is)) (rowsIn 0 (length is) (tableOf (holds K) is t)) (rowsIn 0 (length is) (tableOf (holds K) (sent .items) t′)) =
           rw (rows-in-table (holds K) is t _ refl, rows-in-table (holds K) (sent .items) t′ _ count)
           (sent-table (holds K) p is by (knows-sum K g) found f) in
           rw count (bothRead rows)

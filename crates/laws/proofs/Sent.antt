@@ -20,10 +20,11 @@ use Rattle.catalogue.specs.declared.Shape.{Shape}
 use Rattle.catalogue.specs.declared.Shape.the-variants.{Text, Number, Absent}
 use Rattle.tagset.specs.Sets.{holds}
 use Rattle.tagset.specs.declared.TagSet.{TagSet}
+use Rattle.rows.specs.Kinds.{shapeFor}
 use Rattle.packet.specs.Pieces.{Piece, Item, pieces}
 use Rattle.packet.specs.Judge.{Knowing}
 use Rattle.packet.specs.Verdict.{verdict}
-use Rattle.packet.specs.Rows.{shapeFor, rowOf, rowsOf, readAnswer, readTable, rowsIn, bytesAt, valueIn, pieceOf, piecesOf}
+use Rattle.packet.specs.Rows.{rowOf, rowsOf, readAnswer, readTable, rowsIn, bytesAt, valueIn, pieceOf, piecesOf}
 use Rattle.packet.specs.Encode.{encode, canonical}
 use Rattle.packet.specs.Allowed.{headOf, ItemsOf, noMore, another, Formed, pieceAt}
 use Rattle.laws.proofs.Items.{pieceBytes, after-head, after-piece, piece-length}
@@ -116,7 +117,7 @@ module _ (K : Knowing) (p : List ℕ) (is : List Item) (by : Bytes p) (e : verdi
 
 -- "sending on is reading and then writing all rows, the packet being the buffer": of n rows, read into the table t
 abbrev pub sentOn : TagSet → List ℕ → List ℕ → ℕ → List ℕ
-sentOn K p t n = encode (piecesOf (holds K) p (rowsIn n (readTable K p t)))
+sentOn K p t n = encode (piecesOf (holds K) p (rowsIn 0 n (readTable K p t)))
 
 module _ (K : TagSet) (p t : List ℕ) (n : ℕ) (by : Bytes p) (e : readAnswer K p t ≡ given n) where
   -- what is sent on does not depend on who sends

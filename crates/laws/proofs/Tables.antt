@@ -2,6 +2,7 @@
 -- Assumes nothing.
 use Prim.Native.Nat.{ℕ, zero, suc, _+_, _*_, _<_, _≤_}
 use native.Mathlib.Omega.{arith}
+use native.Mathlib.Nat.{add-zero}
 use mathlib.Core.Path.{_≡_, refl, ap, _∙_}
 use mathlib.Core.Bool.{true, false}
 use mathlib.Core.List.{List, [], _∷_, _++_}
@@ -19,7 +20,9 @@ use Rattle.packet.specs.Pieces.{Item}
 use Rattle.packet.specs.Judge.{Knowing}
 use Rattle.packet.specs.Verdict.{counted, verdict}
 use Rattle.packet.specs.Allowed.{Allowed}
-use Rattle.packet.specs.Rows.{shapeFor, Row, rowOf, rowsOf, words, tableOf, lentVerdict, readAnswer, readTable, rowIn, rowsIn}
+use Rattle.rows.specs.Kinds.{shapeFor, Row}
+use Rattle.rows.specs.Taken.{rowAt}
+use Rattle.packet.specs.Rows.{rowOf, rowsOf, words, tableOf, lentVerdict, readAnswer, readTable, rowsIn}
 use Rattle.laws.proofs.Structure.{passed, missed}
 use Rattle.laws.proofs.Accepted.{accepted-allowed, allowed-accepted}
 use Rattle.laws.proofs.Receivers.{Below, Only, larger-accepts, larger-refuses}
@@ -44,8 +47,8 @@ module _ (K K′ : Knowing) (i : Item) where
   unknown-row e = rw e
 
 -- the rows are in the table, four words each
-row-in : (K : Knowing) (is : List Item) (rest : List ℕ) (k : ℕ) → k < length is → rowIn (words (rowsOf K is) ++ rest) k ≡ rowOf K (itemIn is k)
-unfolding words rowsOf
+row-in : (K : Knowing) (is : List Item) (rest : List ℕ) (k : ℕ) → k < length is → rowAt (words (rowsOf K is) ++ rest) k ≡ rowOf K (itemIn is k)
+unfolding words rowsOf rowAt
 row-in K [] rest k h = absurd (omega arith)
 row-in K (i ∷ is) rest zero h = refl
 row-in K (i ∷ is) rest (suc k) h =
@@ -53,18 +56,23 @@ row-in K (i ∷ is) rest (suc k) h =
     let some : (n : ℕ) → suc (suc (suc (suc (4 * k)))) + n ≡ suc (suc (suc (suc (4 * k + n)))) = λ n. omega arith in
     rw (none, some 1, some 2, some 3) (row-in K is rest k (omega arith))
 
-row-in-table : (K : Knowing) (is : List Item) (t : List ℕ) (k : ℕ) → k < length is → rowIn (tableOf K is t) k ≡ rowOf K (itemIn is k)
+row-in-table : (K : Knowing) (is : List Item) (t : List ℕ) (k : ℕ) → k < length is → rowAt (tableOf K is t) k ≡ rowOf K (itemIn is k)
 unfolding tableOf
 row-in-table K is t k h = row-in K is _ k h
 
-all-rows-in : (K : Knowing) (is : List Item) (rest : List ℕ) → rowsIn (length is) (words (rowsOf K is) ++ rest) ≡ rowsOf K is
-unfolding words rowsOf rowsIn
-all-rows-in K [] rest = refl
-all-rows-in K (i ∷ is) rest = ap (λ rs. rowOf K i ∷ rs) (all-rows-in K is rest)
+all-rows : (K : Knowing) (is : List Item) (t : List ℕ) (k : ℕ) → ((j : ℕ) → j < length is → rowAt t (k + j) ≡ rowOf K (itemIn is j))
+    → rowsIn k (length is) t ≡ rowsOf K is
+unfolding rowsOf rowsIn
+all-rows K [] t k h = refl
+all-rows K (i ∷ is) t k h =
+    let first : rowAt t k ≡ rowOf K i = rw add-zero at (h 0 (omega arith)) in
+    let others : (j : ℕ) → j < length is → rowAt t (suc k + j) ≡ rowOf K (itemIn is j) = λ j l.
+    rw (let e : suc k + j ≡ k + suc j = omega arith in e) (h (suc j) (omega arith)) in
+    rw (first, all-rows K is t (suc k) others)
 
-pub rows-in-table : (K : Knowing) (is : List Item) (t : List ℕ) (n : ℕ) → length is ≡ n → rowsIn n (tableOf K is t) ≡ rowsOf K is
-unfolding tableOf
-rows-in-table K is t n e = rw (← e) (all-rows-in K is _)
+pub rows-in-table : (K : Knowing) (is : List Item) (t : List ℕ) (n : ℕ) → length is ≡ n → rowsIn 0 n (tableOf K is t) ≡ rowsOf K is
+rows-in-table K is t n e =
+    rw (← e) (all-rows K is (tableOf K is t) 0 (λ j h. rw (let z : 0 + j ≡ j = omega arith in z) (row-in-table K is t j h)))
 
 -- what a receiver that answers a count has read: its set is good, its table long enough, and the table's rows are the items' own
 pub record HasRead (K : TagSet) (p t : List ℕ) (n : ℕ) : Type 0 where
@@ -132,7 +140,7 @@ module _ (K K′ : TagSet) (g : good K ≡ true) (g′ : good K′ ≡ true) (wi
   read-larger n e = let r = has-read K′ p t′ n e in answer-given K p t g long (r .items) (smaller n r) ∙ ap given (r .count)
 
   -- the same row for every item whose tag the smaller knows, a carried one with the same place and length for every other
-  pub read-rows : (n k : ℕ) → readAnswer K′ p t′ ≡ given n → k < n → SmallerRow (holds K) (rowIn (readTable K p t) k) (rowIn (readTable K′ p t′) k)
+  pub read-rows : (n k : ℕ) → readAnswer K′ p t′ ≡ given n → k < n → SmallerRow (holds K) (rowAt (readTable K p t) k) (rowAt (readTable K′ p t′) k)
   unfolding rowOf
   read-rows n k e h =
       let r = has-read K′ p t′ n e in

@@ -1,43 +1,23 @@
 -- Document 01, Rows: "A row is four 64-bit words: tag; kind (1 reading, 2 mark, 3 text, 4 carried); the stored code as an
 -- unsigned number (0 for text and carried); place of the value × 65,536 + its length."
-use Prim.Native.Nat.{ℕ, zero, suc, _+_, _-_, _*_, _/_, _%_, _^_, _<_}
+use Prim.Native.Nat.{ℕ, zero, suc, _+_, _-_, _*_, _<_}
 use mathlib.Core.Path.{_≡_}
-use mathlib.Core.Bool.{cond, _&&_}
+use mathlib.Core.Bool.{cond}
 use mathlib.Core.List.{List, [], _∷_, _++_}
-use lib.ListN.{length, getD, take, drop, replicate}
-use lib.Dec.{ltb, eqb}
+use lib.ListN.{length, take, drop, replicate}
+use lib.Dec.{ltb}
 use Rattle.refusal.specs.Answer.{Answer, given, refused}
 use Rattle.number.specs.Stored.{valueOf, bytesOf}
 use Rattle.tagset.specs.Sets.{holds}
 use Rattle.tagset.specs.declared.TagSet.{TagSet}
 use Rattle.knowing.specs.Good.{good}
-use Rattle.catalogue.specs.Shapes.{shapeOf}
 use Rattle.catalogue.specs.declared.Shape.{Shape}
 use Rattle.catalogue.specs.declared.Shape.the-variants.{Text, Number, Absent}
+pub use Rattle.rows.specs.Kinds.{Row, shapeFor, kindIn, codeIn}
+use Rattle.rows.specs.Taken.{spotPlace, spotLength, rowAt}
 use Rattle.packet.specs.Pieces.{Piece, Item}
 use Rattle.packet.specs.Judge.{Knowing}
 use Rattle.packet.specs.Verdict.{verdict, counted}
-
--- the shape that a receiver gives a tag: it carries what it does not know
-unfoldable pub shapeFor : Knowing → ℕ → Shape
-shapeFor K t = cond (K t) (shapeOf t) Absent
-
--- the kind of a value, by its shape and its code
-abbrev pub kindIn : Shape → ℕ → ℕ
-kindIn (Number width marked) code = cond (marked && eqb code (2 ^ (8 * width - 1))) 2 1
-kindIn Text code = 3
-kindIn Absent code = 4
-
-abbrev pub codeIn : Shape → ℕ → ℕ
-codeIn (Number width marked) code = code
-codeIn Text code = 0
-codeIn Absent code = 0
-
-pub record Row : Type 0 where
-  pub tag : ℕ
-  pub kind : ℕ
-  pub code : ℕ
-  pub spot : ℕ
 
 abbrev pub rowBy : Shape → Item → Row
 rowBy shape i =
@@ -79,27 +59,14 @@ tableBy K t (refused n p g) = t
 unfoldable pub readTable : TagSet → List ℕ → List ℕ → List ℕ
 readTable K p t = tableBy (holds K) t (lentVerdict K p t)
 
--- the row at an index of a table
-abbrev pub rowIn : List ℕ → ℕ → Row
-rowIn t k =
-    record {
-      tag = getD t (4 * k) 0;
-      kind = getD t (4 * k + 1) 0;
-      code = getD t (4 * k + 2) 0;
-      spot = getD t (4 * k + 3) 0;
-    }
+-- n rows of a table, from the one numbered k on
+unfoldable pub rowsIn : ℕ → ℕ → List ℕ → List Row
+rowsIn k zero t = []
+rowsIn k (suc n) t = rowAt t k ∷ rowsIn (suc k) n t
 
--- the first n rows of a table
-unfoldable pub rowsIn : ℕ → List ℕ → List Row
-rowsIn zero t = []
-rowsIn (suc n) t = rowIn t 0 ∷ rowsIn n (drop 4 t)
-
--- the length of a row's value, and the bytes that the row points at in a buffer
-abbrev pub sizeOf : Row → ℕ
-sizeOf r = r .spot % 65536
-
+-- the bytes that a row points at in a buffer
 abbrev pub bytesAt : List ℕ → Row → List ℕ
-bytesAt b r = take (sizeOf r) (drop (r .spot / 65536) b)
+bytesAt b r = take (spotLength (r .spot)) (drop (spotPlace (r .spot)) b)
 
 -- the value that a row stands for: its code's bytes, or those that it points at
 abbrev pub valueIn : Shape → List ℕ → Row → List ℕ
@@ -120,7 +87,7 @@ pub record SameRow (b c : List ℕ) (r s : Row) : Type 0 where
   pub tag : r .tag ≡ s .tag
   pub kind : r .kind ≡ s .kind
   pub code : (r .tag ≡ 1 → ⊥) → r .code ≡ s .code
-  pub size : sizeOf r ≡ sizeOf s
+  pub size : spotLength (r .spot) ≡ spotLength (s .spot)
   pub value : 2 < r .kind → bytesAt b r ≡ bytesAt c s
 
 pub data SameTable (b c : List ℕ) : List Row → List Row → Type 0 where

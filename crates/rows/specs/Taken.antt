@@ -1,0 +1,91 @@
+-- Document 01, Rows and Writer: which rows are bad, and a row taken out singly.
+use Prim.Native.Nat.{ℕ, _+_, _*_, _/_, _%_, _^_}
+use mathlib.Core.Bool.{Bool, cond, _&&_, _||_}
+use mathlib.Core.List.{List}
+use lib.ListN.{length, getD}
+use lib.Dec.{ltb, leb, eqb}
+use Rattle.refusal.specs.Answer.{Answer, given, refused, refusal}
+use Rattle.tagset.specs.Sets.{holds}
+use Rattle.tagset.specs.declared.TagSet.{TagSet}
+use Rattle.knowing.specs.Good.{good}
+use Rattle.catalogue.specs.declared.Shape.{Shape}
+use Rattle.catalogue.specs.declared.Shape.the-variants.{Text, Number, Absent}
+use Rattle.rows.specs.Kinds.{Row, shapeFor, kindIn}
+use Rattle.rows.specs.declared.Content.{Content}
+use Rattle.rows.specs.declared.Content.the-variants as content
+use Rattle.rows.specs.declared.Part.{Part}
+use Rattle.rows.specs.declared.SingleRow.{SingleRow}
+use Rattle.rows.specs.declared.Taken.{Taken}
+use Rattle.rows.specs.declared.Taken.the-variants.{Is, Refused}
+
+-- the fourth word: place × 65,536 + length
+abbrev pub spotPlace : ℕ → ℕ
+spotPlace w = w / 65536
+
+abbrev pub spotLength : ℕ → ℕ
+spotLength w = w % 65536
+
+-- "its tag is not 1 to 2,097,151"
+abbrev pub tagGood : ℕ → Bool
+tagGood t = ltb 0 t && ltb t 2097152
+
+-- "it is text or carried and has a code other than 0 or a place plus length beyond the buffer"
+abbrev pub partGood : ℕ → ℕ → ℕ → Bool
+partGood room code spot = eqb code 0 && leb (spotPlace spot + spotLength spot) room
+
+-- "a number with another length than the catalogue's, a code too wide"; "tag 1's code is never a reason"
+abbrev pub codeGood : ℕ → ℕ → ℕ → Bool
+codeGood tag width code = eqb tag 1 || ltb code (2 ^ (8 * width))
+
+abbrev pub contentGood : Shape → ℕ → Row → Bool
+contentGood (Number width marked) room r = eqb (spotLength (r .spot)) width && codeGood (r .tag) width (r .code)
+contentGood Text room r = partGood room (r .code) (r .spot)
+contentGood Absent room r = partGood room (r .code) (r .spot)
+
+-- a row that is not bad, for a receiver and a buffer of so many bytes: its kind is the one that this receiver gives the tag and the code
+unfoldable pub rowGood : Shape → ℕ → Row → Bool
+rowGood shape room r = tagGood (r .tag) && (eqb (r .kind) (kindIn shape (r .code)) && contentGood shape room r)
+
+-- the tag that goes with 17: "its tag if 1 to 2,097,151, else 0"
+abbrev pub tagShown : ℕ → ℕ
+tagShown t = cond (tagGood t) t 0
+
+-- "row count over 128 or four times it over the words lent"
+abbrev pub countGood : ℕ → ℕ → Bool
+countGood count lent = leb count 128 && leb (4 * count) lent
+
+-- the words of a row
+unfoldable pub rowAt : List ℕ → ℕ → Row
+rowAt words n =
+    record {
+      tag = getD words (4 * n) 0;
+      kind = getD words (4 * n + 1) 0;
+      code = getD words (4 * n + 2) 0;
+      spot = getD words (4 * n + 3) 0;
+    }
+
+-- "its tag beside one of four kinds of content"
+abbrev pub partOf : ℕ → Part
+partOf spot = record { place = spotPlace spot; length = spotLength spot }
+
+abbrev pub contentOf : Shape → Row → Content
+contentOf (Number width marked) r = cond (eqb (r .kind) 2) content.Mark (content.Reading (r .code))
+contentOf Text r = content.Text (partOf (r .spot))
+contentOf Absent r = content.Carried (partOf (r .spot))
+
+abbrev pub rowTaken : Shape → ℕ → ℕ → Row → Answer SingleRow
+rowTaken shape room n r =
+    cond (rowGood shape room r) (given (record { tag = r .tag; content = contentOf shape r })) (refused 17 n (tagShown (r .tag)))
+
+-- the row numbered n of count rows: 1, 16, 17, or the row
+unfoldable pub rowTakenAt : TagSet → ℕ → ℕ → ℕ → List ℕ → Answer SingleRow
+rowTakenAt K room count n words =
+    cond (good K)
+    (cond (countGood count (length words))
+    (cond (ltb n count) (rowTaken (shapeFor (holds K) (rowAt words n .tag)) room n (rowAt words n)) (refused 17 n 0))
+    (refused 16 0 0))
+    (refused 1 0 0)
+
+abbrev pub takenSaid : Taken → Answer SingleRow
+takenSaid (Is r) = given r
+takenSaid (Refused r) = refusal r

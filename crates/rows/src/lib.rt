@@ -1,0 +1,257 @@
+// Rows: what a receiver makes of an item, and a row taken out of a table by itself.
+ghost use mathlib.Core.Path.{_≡_};
+ghost use Prim.Native.Nat.{_+_, _*_, _<_, _≤_};
+ghost use lib.ListN.{length};
+ghost use Rattle.refusal.specs.Numbers.{number};
+ghost use Rattle.refusal.specs.Answer.{refused as refusedBy};
+ghost use lib.Dec.{eqb};
+ghost use mathlib.Core.Bool.{cond};
+ghost use Rattle.tagset.specs.Sets.{holds};
+ghost use Rattle.catalogue.specs.Column.{shapeIn};
+ghost use Rattle.catalogue.specs.declared.Shape.{Shape};
+ghost use Rattle.rows.specs.Kinds.{kindIn, codeIn, markCode};
+ghost use Rattle.rows.specs.Taken.{rowGood, contentGood, partGood, codeGood, countGood, tagShown, rowAt, partOf, contentOf, rowTaken, rowTakenAt, takenSaid};
+use catalogue::Shape;
+use refusal::Reason;
+use refusal::Refusal;
+use tagset::TagSet;
+
+// The four words of a row.
+pub struct RowWords {
+    pub tag: u64,
+    pub kind: u64,
+    pub code: u64,
+    pub spot: u64,
+}
+
+// The kind of a value, by its shape and its code: 1 reading, 2 mark, 3 text, 4 carried.
+pub fn kind_of(shape: Shape, code: u64) -> u64
+    ensures { λ r. ⌜ r ≡ kindIn shape code ⌝ }
+{
+    match shape {
+        Shape::Text => 3,
+        Shape::Absent => 4,
+        Shape::Number { width, marked } => {
+            if marked {
+                if is_mark(width, code) {
+                    return 2;
+                }
+            }
+            1
+        }
+    }
+}
+
+// The word for a code: 0 for text and carried.
+pub fn code_of(shape: Shape, code: u64) -> u64
+    ensures { λ r. ⌜ r ≡ codeIn shape code ⌝ }
+{
+    match shape {
+        Shape::Text => 0,
+        Shape::Absent => 0,
+        Shape::Number {
+            width: _,
+            marked: _,
+        } => code,
+    }
+}
+
+// Whether only the top bit of a code of so many bytes is set.
+fn is_mark(width: usize, code: u64) -> bool
+    ensures { λ r. ⌜ r ≡ eqb code (markCode width) ⌝ }
+{
+    if width == 0 {
+        return code == 1;
+    }
+    if 8 < width {
+        return false;
+    }
+    code == 1 << (8 * width - 1)
+}
+
+// The shape that a receiver gives a tag, by the column of shapes: it carries what it does not know.
+pub fn shape_for(column: &[u8; 128], known: TagSet, tag: u64) -> Shape
+    ensures { λ r. ⌜ r ≡ cond (holds known tag) (shapeIn (now (column .entry)) tag) Shape.Absent ⌝ }
+{
+    if tagset::has(known, tag) {
+        return catalogue::shape_at(column, tag);
+    }
+    Shape::Absent
+}
+
+// Whether a row is not bad, for a shape and a buffer of so many bytes.
+pub fn is_good_row(shape: Shape, room: usize, row: RowWords) -> bool
+    ensures { λ r. ⌜ r ≡ rowGood shape room row ⌝ }
+{
+    let tag = row.tag;
+    if 0 < tag {
+        if tag < 2097152 {
+            if row.kind == kind_of(shape, row.code) {
+                return is_good_content(shape, room, row);
+            }
+        }
+    }
+    false
+}
+
+fn is_good_content(shape: Shape, room: usize, row: RowWords) -> bool
+    ensures { λ r. ⌜ r ≡ contentGood shape room row ⌝ }
+{
+    match shape {
+        Shape::Text => is_good_part(room, row.code, row.spot),
+        Shape::Absent => is_good_part(room, row.code, row.spot),
+        Shape::Number { width, marked: _ } => {
+            if (row.spot % 65536) as usize == width {
+                return is_good_code(row.tag, width, row.code);
+            }
+            false
+        }
+    }
+}
+
+// Text and carried: code 0, and the place plus the length within the buffer.
+fn is_good_part(room: usize, code: u64, spot: u64) -> bool
+    ensures { λ r. ⌜ r ≡ partGood room code spot ⌝ }
+{
+    let place = (spot / 65536) as usize;
+    let length = (spot % 65536) as usize;
+    if code == 0 {
+        return place + length <= room;
+    }
+    false
+}
+
+// A number: not too wide, the checksum's aside.
+fn is_good_code(tag: u64, width: usize, code: u64) -> bool
+    ensures { λ r. ⌜ r ≡ codeGood tag width code ⌝ }
+{
+    if tag == 1 {
+        return true;
+    }
+    if 8 <= width {
+        return true;
+    }
+    code < 1 << (8 * width)
+}
+
+// A part of the buffer.
+pub struct Part {
+    pub place: usize,
+    pub length: usize,
+}
+
+// What a row holds: a reading's code, a mark, or where text or carried bytes stand.
+pub enum Content {
+    Reading(u64),
+    Mark,
+    Text(Part),
+    Carried(Part),
+}
+
+// A row taken out singly.
+pub struct SingleRow {
+    pub tag: u64,
+    pub content: Content,
+}
+
+pub enum Taken {
+    Is(SingleRow),
+    Refused(Refusal),
+}
+
+fn refused(reason: Reason, place: usize, tag: u64) -> Taken
+    ensures { λ r. ⌜ takenSaid r ≡ refusedBy (number reason) place tag ⌝ }
+{
+    Taken::Refused(Refusal { reason, place, tag })
+}
+
+// Whether so many rows can stand in so many words.
+pub fn is_good_count(count: usize, lent: usize) -> bool
+    ensures { λ r. ⌜ r ≡ countGood count lent ⌝ }
+{
+    if count <= 128 {
+        return 4 * count <= lent;
+    }
+    false
+}
+
+// The tag that a bad row is refused with.
+pub fn tag_shown(tag: u64) -> u64
+    ensures { λ r. ⌜ r ≡ tagShown tag ⌝ }
+{
+    if tag < 2097152 {
+        return tag;
+    }
+    0
+}
+
+fn row_at(words: &[u64], n: usize) -> RowWords
+    requires { ⌜ (n < 128) × (4 * n + 4 ≤ length (now words)) ⌝ }
+    ensures { λ r. ⌜ r ≡ rowAt (now (words .entry)) n ⌝ }
+{
+    let at = 4 * n;
+    RowWords {
+        tag: words[at],
+        kind: words[at + 1],
+        code: words[at + 2],
+        spot: words[at + 3],
+    }
+}
+
+fn part_of(spot: u64) -> Part
+    ensures { λ r. ⌜ r ≡ partOf spot ⌝ }
+{
+    Part {
+        place: (spot / 65536) as usize,
+        length: (spot % 65536) as usize,
+    }
+}
+
+fn content_of(shape: Shape, row: RowWords) -> Content
+    ensures { λ r. ⌜ r ≡ contentOf shape row ⌝ }
+{
+    match shape {
+        Shape::Text => Content::Text(part_of(row.spot)),
+        Shape::Absent => Content::Carried(part_of(row.spot)),
+        Shape::Number {
+            width: _,
+            marked: _,
+        } => {
+            if row.kind == 2 {
+                return Content::Mark;
+            }
+            Content::Reading(row.code)
+        }
+    }
+}
+
+fn single(shape: Shape, room: usize, n: usize, row: RowWords) -> Taken
+    ensures { λ r. ⌜ takenSaid r ≡ rowTaken shape room n row ⌝ }
+{
+    if is_good_row(shape, room, row) {
+        return Taken::Is(SingleRow {
+            tag: row.tag,
+            content: content_of(shape, row),
+        });
+    }
+    refused(Reason::RowBad, n, tag_shown(row.tag))
+}
+
+// The row numbered n of count rows, with the buffer that text and carried rows point into: refused as the writer refuses it.
+pub fn take_row(words: &[u64], count: usize, n: usize, known: TagSet, buffer: &[u8]) -> Taken
+    ensures { λ r. ⌜ takenSaid r ≡ rowTakenAt known (length (now (buffer .entry))) count n (now (words .entry)) ⌝ }
+{
+    if knowing::is_good(known) {
+        if is_good_count(count, words.len()) {
+            if n < count {
+                let row = row_at(words, n);
+                let column = catalogue::shapes();
+                let shape = shape_for(&column, known, row.tag);
+                return single(shape, buffer.len(), n, row);
+            }
+            return refused(Reason::RowBad, n, 0);
+        }
+        return refused(Reason::RowCountTooLarge, 0, 0);
+    }
+    refused(Reason::SetNotGood, 0, 0)
+}
