@@ -27,7 +27,7 @@ use Rattle.laws.proofs.Accepted.{accepts}
 use Rattle.laws.proofs.Written.{length-item, length-pieces, Tagged, SameBut, judged-alike, Sendable, length-encode, ReadBack, read-back, encode-bytes}
 
 -- an item that stands there can be written
-items-tagged : {at : ℕ} {l : List ℕ} {is : List Item} → ItemsOf at l is → Each Tagged (pieces is)
+pub items-tagged : {at : ℕ} {l : List ℕ} {is : List Item} → ItemsOf at l is → Each Tagged (pieces is)
 items-tagged noMore = tt
 items-tagged (another c form rest some small f i) = (record { some = some; small = small }, items-tagged i)
 

@@ -7,5 +7,6 @@ pub mod Tables
 pub mod Written
 pub mod Forward
 pub mod Sent
+pub mod Rows
 pub mod Readings
 pub mod Shortest

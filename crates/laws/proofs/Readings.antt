@@ -33,13 +33,8 @@ use Rattle.laws.proofs.Accepted.{accepts, accepting}
 use Rattle.laws.proofs.Written.{sumPiece, SameBut, atLast, further, but-length, judged-alike, length-pieces, Sendable, ReadBack, read-back, written-accepted}
 use Rattle.laws.proofs.Forward.{canonical-is, canonical-back}
 use Rattle.laws.proofs.Tables.{has-read, rows-in-table}
-use Rattle.laws.proofs.Sent.{Lies, formed-lie, bytes-back, SizedFor, piece-back, accepted-sized, accepted-lie, rows-pieces, sentOn, sent-canonical}
-
--- a row as a receiver gives it to the piece that it stands for; the checksum's code is any
-pub record Made (K : Knowing) (b : List ℕ) (r : Row) : Type 0 where
-  pub kind : r .kind ≡ kindIn (shapeFor K (r .tag)) (valueOf (pieceOf K b r .value))
-  pub code : (r .tag ≡ 1 → ⊥) → r .code ≡ codeIn (shapeFor K (r .tag)) (valueOf (pieceOf K b r .value))
-  pub size : spotLength (r .spot) ≡ length (pieceOf K b r .value)
+use Rattle.laws.proofs.Rows.{GoodRow, Made, all-made, rows-good}
+use Rattle.laws.proofs.Sent.{Lies, formed-lie, bytes-back, rows-pieces, sentOn, sent-canonical}
 
 -- a number's row points at nothing
 no-place : (width : ℕ) (marked : Bool) (code : ℕ) → 2 < kindIn (Number width marked) code → ⊥
@@ -99,8 +94,8 @@ module _ (K : Knowing) (b q : List ℕ) where
   same-table k (further s) (r ∷ rs) [] f g m l = never (cc)
   same-table k (further s) (r ∷ rs) (j ∷ js) f g m l = oneMore (same-row r j (m .0) (l .0) (cc)) (same-table k s rs js (cc) (cc) (m .1) (l .1))
 
--- rows that a receiver writes, and itself reads back
-module _ (K : Knowing) (b : List ℕ) (rs : List Row) (k : K 1 ≡ true) (m : Each (Made K b) rs) (s : Sendable (piecesOf K b rs))
+-- rows of which none is bad, that a receiver writes and itself reads back
+module _ (K : Knowing) (b : List ℕ) (rs : List Row) (k : K 1 ≡ true) (g : Each (GoodRow K b) rs) (s : Sendable (piecesOf K b rs))
     (e : judge K (piecesOf K b rs) ≡ fine) where
   back : ReadBack (piecesOf K b rs)
   back = read-back (piecesOf K b rs) s
@@ -111,28 +106,8 @@ module _ (K : Knowing) (b : List ℕ) (rs : List Row) (k : K 1 ≡ true) (m : Ea
   written-table = (
     back .items,
     written-accepted (piecesOf K b rs) s K e,
-    same-table K b (encode (piecesOf K b rs)) k (back .same) rs (back .items) refl refl m (formed-lie _ (back .items) (back .formed)),
+    same-table K b (encode (piecesOf K b rs)) k (back .same) rs (back .items) refl refl (all-made K b rs g) (formed-lie _ (back .items) (back .formed)),
   )
-
--- the rows of an accepted packet are made so
-made-row : (K : Knowing) (p : List ℕ) (i : Item) → Bytes p → Lies p i → SizedFor K (i .piece) → Made K p (rowOf K i)
-unfolding rowOf
-made-row K p i by l s =
-    let e = piece-back K p i by l s in
-    record {
-      kind = ap (λ (c : Piece). kindIn (shapeFor K (i .piece .tag)) (valueOf (c .value))) (sym e);
-      code = λ other. ap (λ (c : Piece). codeIn (shapeFor K (i .piece .tag)) (valueOf (c .value))) (sym e);
-      size = row-size K p p i l ∙ ap (λ (c : Piece). length (c .value)) (sym e);
-    }
-
-made-rows : (K : Knowing) (p : List ℕ) (is : List Item) → Bytes p → Each (Lies p) is → Each (SizedFor K) (pieces is) → Each (Made K p) (rowsOf K is)
-unfolding rowsOf
-made-rows K p [] by l s = tt
-made-rows K p (i ∷ is) by l s = (made-row K p i by (l .0) (s .0), made-rows K p is by (l .1) (s .1))
-
--- so they can be written again
-pub rows-made : (K : Knowing) (p : List ℕ) (is : List Item) → Bytes p → verdict K p ≡ given is → Each (Made K p) (rowsOf K is)
-rows-made K p is by e = made-rows K p is by (accepted-lie K p is by e) (accepted-sized K p is by e)
 
 -- what is sent on gives the same table as the packet
 module _ (K : Knowing) (p : List ℕ) (is : List Item) (by : Bytes p) (k : K 1 ≡ true) where
@@ -142,7 +117,7 @@ module _ (K : Knowing) (p : List ℕ) (is : List Item) (by : Bytes p) (k : K 1 �
       let back = canonical-back p is by f in
       let e : verdict K p ≡ given is = accepting K p is (record { found = f; faultless = j }) in
       same-table K p (encode (pieces is)) k (back .same) (rowsOf K is) (back .items) (rows-pieces K p is by e) refl
-      (rows-made K p is by e) (formed-lie _ (back .items) (back .formed))
+      (all-made K p (rowsOf K is) (rows-good K p is by e)) (formed-lie _ (back .items) (back .formed))
 
   pub forward-table : verdict K p ≡ given is → (js : List Item) × (verdict K (canonical p) ≡ given js) × SameTable p (canonical p) (rowsOf K is) (rowsOf K js)
   forward-table e =

@@ -38,34 +38,40 @@ use Rattle.laws.proofs.Forward.{canonical-is, forward-shorter}
 pub record Lies (p : List ℕ) (i : Item) : Type 0 where
   pub there : i .piece .value ≡ take (length (i .piece .value)) (drop (i .place) p)
   pub short : length (i .piece .value) < 65536
+  pub inside : i .place + length (i .piece .value) ≤ length p
 
-items-lie : (p : List ℕ) {at : ℕ} {l : List ℕ} {is : List Item} → ItemsOf at l is → l ≡ drop at p → length l < 65536 → Each (Lies p) is
-items-lie p noMore e k = tt
-items-lie p (another {at} c form rest some small f i) e k =
+items-lie : (p : List ℕ) {at : ℕ} {l : List ℕ} {is : List Item} → ItemsOf at l is → l ≡ drop at p → at + length l ≡ length p → length p < 65536
+    → Each (Lies p) is
+items-lie p noMore e h k = tt
+items-lie p (another {at} c form rest some small f i) e h k =
     let size = piece-length c form rest in
     let dropped : (n : ℕ) → drop (at + n) p ≡ drop n (pieceBytes c form rest) = λ n. sym (drop-drop n at p) ∙ ap (drop n) (sym e) in (
       record {
         there = sym (ap (take (length (c .value))) (dropped (headOf c form) ∙ after-head c form rest) ∙ take-at (c .value) rest _ refl);
         short = omega arith;
+        inside = omega arith;
       },
-      items-lie p i (sym (dropped (headOf c form + length (c .value)) ∙ after-piece c form rest)) (omega arith),
+      items-lie p i (sym (dropped (headOf c form + length (c .value)) ∙ after-piece c form rest)) (omega arith) k,
     )
 
 -- all items of a packet do
 pub formed-lie : (p : List ℕ) (is : List Item) → Formed p is → Each (Lies p) is
-formed-lie p is f = items-lie p (f .items) (sym (formed-body p is f)) (omega (arith, formed-length p is f, f .small))
+formed-lie p is f = items-lie p (f .items) (sym (formed-body p is f)) (omega (arith, formed-length p is f)) (omega (arith, f .small))
 
 -- the bytes that an item's row points at are its value
 pub bytes-back : (K : Knowing) (p : List ℕ) (i : Item) → Lies p i → bytesAt p (rowOf K i) ≡ i .piece .value
 unfolding rowOf
 bytes-back K p i l = rw (digits-mod (i .place) (l .short), digits-div (i .place) (l .short)) (sym (l .there))
 
+pub lies-bytes : (p : List ℕ) (i : Item) → Bytes p → Lies p i → Bytes (i .piece .value)
+lies-bytes p i by l = rw (l .there) (bytes-take (length (i .piece .value)) (drop (i .place) p) (bytes-drop (i .place) by))
+
 -- the length is allowed where the tag is known
 abbrev pub SizedFor : Knowing → Piece → Type 0
 SizedFor K c = K (c .tag) ≡ true → lengthAllowed (c .tag) (length (c .value)) ≡ true
 
 -- a known number has its width
-number-width : (K : Knowing) (c : Piece) (width : ℕ) (marked : Bool) → SizedFor K c → shapeFor K (c .tag) ≡ Number width marked → length (c .value) ≡ width
+pub number-width : (K : Knowing) (c : Piece) (width : ℕ) (marked : Bool) → SizedFor K c → shapeFor K (c .tag) ≡ Number width marked → length (c .value) ≡ width
 unfolding shapeFor lengthAllowed
 number-width K c width marked sized e =
     byBool (K (c .tag))
@@ -80,12 +86,9 @@ pub piece-back : (K : Knowing) (p : List ℕ) (i : Item) → Bytes p → Lies p 
 unfolding pieceOf rowOf
 piece-back K p i by l sized = ap (λ v. record { tag = i .piece .tag; value = v }) (back (shapeFor K (i .piece .tag)) refl)
   where
-    bytes : Bytes (i .piece .value)
-    bytes = rw (l .there) (bytes-take (length (i .piece .value)) (drop (i .place) p) (bytes-drop (i .place) by))
-
     back : (s : Shape) → shapeFor K (i .piece .tag) ≡ s → valueIn s p (rowOf K i) ≡ i .piece .value
     back (Number width marked) e =
-        rw e (spelled (i .piece .value) width (valueOf (i .piece .value)) bytes (number-width K (i .piece) width marked sized e) refl)
+        rw e (spelled (i .piece .value) width (valueOf (i .piece .value)) (lies-bytes p i by l) (number-width K (i .piece) width marked sized e) refl)
     back Text e = bytes-back K p i l
     back Absent e = bytes-back K p i l
 

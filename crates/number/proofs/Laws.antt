@@ -8,6 +8,7 @@ use mathlib.Core.Path.{_≡_, refl, ap, _∙_}
 use mathlib.Core.List.{List, [], _∷_, _++_}
 use lib.ListN.{length, getD, take, drop}
 use lib.Seq.{getD-drop}
+use lib.Pow.{pow-add}
 use lib.Dec.{ltb}
 use mathlib.Core.Bool.{true}
 use borrow.Author.Tests.{ltb-true}
@@ -117,6 +118,11 @@ value-bytes h (suc n) x =
 
 pub bytes-back : (n x : ℕ) → x < 256 ^ n → valueOf (bytesOf n x) ≡ x
 bytes-back n x h = value-bytes 0 n x ∙ rw (mod-eq-of-lt h) (omega arith)
+
+-- n bytes are 8 n bits
+pub bits-bytes : (n : ℕ) → 2 ^ (8 * n) ≡ 256 ^ n
+bits-bytes zero = refl
+bits-bytes (suc n) = let e : 8 * suc n ≡ 8 * n + 8 = omega arith in rw (e, pow-add 2 (8 * n) 8, bits-bytes n, pow-suc 256 n)
 
 -- one byte more, before those that are there
 pub one-before : (n x left : ℕ) → left ≡ x / 256 ^ n → (left % 256) ∷ bytesOf n x ≡ bytesOf (n + 1) x
