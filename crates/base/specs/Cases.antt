@@ -26,9 +26,13 @@ same-test true b f g = sym (f refl)
 same-test false true f g = g refl
 same-test false false f g = refl
 
+-- two constructors that are equal, by `never (cc)`
+pub never {ℓ} : {C : Type ℓ} → _≡_ {A = ℕ} 0 1 → C
+never e = absurd (omega arith)
+
 -- a test that passes and fails
 pub clash {ℓ} : {C : Type ℓ} → true ≡ false → C
-clash e = let z : _≡_ {A = ℕ} 0 1 = cc in absurd (omega arith)
+clash e = never (cc)
 
 -- the second test passes wherever the first does
 pub unless : (a b : Bool) → not a || b ≡ true → a ≡ true → b ≡ true

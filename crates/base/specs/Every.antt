@@ -45,3 +45,8 @@ all-below f (suc n) e k h =
 pub below-all : (f : ℕ → Bool) (n : ℕ) → ((k : ℕ) → k < n → f k ≡ true) → allBelow f n ≡ true
 below-all f zero h = refl
 below-all f (suc n) h = rw (h n (omega arith)) (below-all f n (λ k l. h k (omega arith)))
+
+-- something holds of every entry
+abbrev pub Each {ℓ} : {A : Type ℓ} → (A → Type 0) → List A → Type 0
+Each P [] = Unit {0}
+Each P (x ∷ xs) = P x × Each P xs

@@ -3,15 +3,15 @@
 use Prim.Native.Nat.{ℕ, zero, suc, _+_, _-_, _*_, _/_, _%_, _^_, _<_, _≤_}
 use native.Mathlib.Omega.{arith}
 use native.Mathlib.Numerals.{add-one}
-use mathlib.Core.Path.{_≡_, refl, ap, ap₂, _∙_, subst}
-use mathlib.Core.List.{List, [], _∷_, _++_}
+use mathlib.Core.Path.{_≡_, refl, ap, ap₂, sym, _∙_, subst, subst₂}
+use mathlib.Core.List.{List, [], _∷_, _++_, append-nil}
 use lib.ListN.{length, take, drop, length-take, length-append}
 use lib.Seq.{take-at}
 use lib.Dec.{ltb, leb}
 use borrow.Author.Tests.{ltb-true, ltb-false, leb-false, lt-ltb, le-ltb, lt-leb}
 use Rattle.base.specs.Cases.{byBool, byLt}
 use Rattle.number.specs.Stored.{Bytes, valueOf, bytesOf}
-use Rattle.number.proofs.Laws.{bytes-tail, bytes-take, bytes-back, length-bytesOf, value-small}
+use Rattle.number.proofs.Laws.{bytes-none, bytes-cons, bytes-tail, bytes-take, bytes-bytesOf, bytes-back, length-bytesOf, spelled, value-small}
 use Rattle.ber.specs.Read.{Read, got, broken, tagThird, tagSecond, readTag, readLength}
 use Rattle.ber.specs.Seen.{seen}
 use Rattle.ber.specs.declared.Field.{Field}
@@ -229,6 +229,72 @@ form-read (longForm ds some few) l =
     let e : a - 128 ≡ length ds = omega arith in
     let k : length ds ≤ length (ds ++ l) = rw length-append (omega arith) in
     rw (le-ltb a 128 (omega arith), lt-leb a 128 (omega arith), le-ltb 132 a (omega arith), e, le-ltb _ _ k, take-at ds l _ refl, add-one)
+
+-- the length that is written: below 128 in one byte, or in n bytes after the first
+data LengthWritten : ℕ → List ℕ → Type 0 where
+  inOne : {x : ℕ} → x < 128 → LengthWritten x (x ∷ [])
+  inMore : (n : ℕ) {x : ℕ} → 0 < n → n < 5 → x < 256 ^ n → LengthWritten x (long n x)
+
+written-view : (x : ℕ) → x < 2 ^ 32 → LengthWritten x (lengthBytes x)
+written-view x small =
+    byLt x 128 (λ h. rw (length-one x h) (inOne h))
+    (λ h. byLt x 256 (λ k. rw (length-two x h k) (inMore 1 (omega arith) (omega arith) k))
+    (λ h. byLt x 65536 (λ k. rw (length-three x h k) (inMore 2 (omega arith) (omega arith) k))
+    (λ h. byLt x 16777216 (λ k. rw (length-four x h k) (inMore 3 (omega arith) (omega arith) k))
+    (λ h. rw (length-five x h small) (inMore 4 (omega arith) (omega arith) small)))))
+
+-- it is one of the length's forms
+pub length-form : (x : ℕ) → x < 2 ^ 32 → LengthForm x (lengthBytes x)
+length-form x small = go (written-view x small)
+  where
+    go : {x : ℕ} {f : List ℕ} → LengthWritten x f → LengthForm x f
+    go (inOne h) = shortForm h
+    go (inMore n {x} some few fits) =
+        let e : length (bytesOf n x) ≡ n = length-bytesOf n x in
+        subst₂ (λ y k. LengthForm y ((128 + k) ∷ bytesOf n x)) (bytes-back n x fits) e (longForm (bytesOf n x) (omega arith) (omega arith))
+
+-- the shortest of them
+pub form-shortest : {x : ℕ} {f : List ℕ} → LengthForm x f → Bytes f → length (lengthBytes x) ≤ length f
+form-shortest {x} {f} r by = length-read (f ++ []) x (length f) (rw (append-nil f) by) (form-read r []) .shortest
+
+-- and the only one of its size
+pub form-one : {x : ℕ} {f : List ℕ} → LengthForm x f → Bytes f → x < 2 ^ 32 → length f ≡ length (lengthBytes x) → f ≡ lengthBytes x
+form-one (shortForm {x} h) by small e = sym (length-one x h)
+form-one (longForm ds some few) by small e = go (written-view (valueOf ds) small) refl e
+  where
+    go : {x : ℕ} {f : List ℕ} → LengthWritten x f → x ≡ valueOf ds → suc (length ds) ≡ length f → (128 + length ds) ∷ ds ≡ f
+    go (inOne h) v l = absurd (omega arith)
+    go (inMore n {x} p q fits) v l =
+        let k : length ds ≡ n = omega (arith, length-bytesOf n x) in
+        rw (spelled ds n x (bytes-tail by) k (sym v), k)
+
+-- a smaller length takes no more bytes
+pub length-mono : (x y : ℕ) → x ≤ y → y < 2 ^ 32 → length (lengthBytes x) ≤ length (lengthBytes y)
+length-mono x y h small = go (written-view y small) h
+  where
+    go : {y : ℕ} {f : List ℕ} → LengthWritten y f → x ≤ y → length (lengthBytes x) ≤ length f
+    go (inOne k) l = omega (arith, sized x (omega arith) .one (omega arith))
+    go (inMore n {x = y} some few fits) l = omega (arith, length-bytesOf n y, shortest n x (omega arith) some (omega arith))
+
+-- what is written is bytes
+pub length-bytes : (x : ℕ) → x < 2 ^ 32 → Bytes (lengthBytes x)
+length-bytes x small = go (written-view x small)
+  where
+    go : {x : ℕ} {f : List ℕ} → LengthWritten x f → Bytes f
+    go (inOne h) = bytes-cons (omega arith) bytes-none
+    go (inMore n {x} some few fits) = bytes-cons (omega arith) (bytes-bytesOf n x)
+
+pub tag-bytes : (t : ℕ) → 0 < t → t < 2097152 → Bytes (tagBytes t)
+tag-bytes t some small =
+    byLt t 128 (λ h. rw (tag-one t some h) (bytes-cons (omega arith) bytes-none))
+    (λ h. byLt t 16384
+    (λ k. rw (tag-two t h k) (bytes-cons (omega arith) (bytes-cons (omega arith) bytes-none)))
+    (λ k. rw (tag-three t k small) (bytes-cons (omega arith) (bytes-cons (omega arith) (bytes-cons (omega arith) bytes-none)))))
+
+-- every form has a byte
+pub form-some : {x : ℕ} {f : List ℕ} → LengthForm x f → 0 < length f
+form-some (shortForm h) = omega arith
+form-some (longForm ds some few) = omega arith
 
 -- what an answer says tells any two answers apart
 pub seen-apart : (a b : Field) → seen a ≡ seen b → a ≡ b

@@ -8,6 +8,11 @@ use mathlib.Core.Path.{_≡_, refl, ap, _∙_}
 use mathlib.Core.List.{List, [], _∷_, _++_}
 use lib.ListN.{length, getD, take, drop}
 use lib.Seq.{getD-drop}
+use lib.Pow.{pow-add}
+use lib.Dec.{ltb}
+use mathlib.Core.Bool.{true}
+use borrow.Author.Tests.{ltb-true}
+use Rattle.base.specs.Every.{all, both-left, both-right}
 use lib.Arith.{digits-lt, digits-div, mod-mul}
 use Rattle.number.specs.Stored.{Bytes, valueFrom, valueOf, bytesOf}
 
@@ -36,6 +41,19 @@ bytes-take (suc n) (a ∷ l) by = bytes-cons (by .byte 0) (bytes-take n l (bytes
 pub bytes-append : (l m : List ℕ) → Bytes l → Bytes m → Bytes (l ++ m)
 bytes-append [] m x y = y
 bytes-append (a ∷ l) m x y = bytes-cons (x .byte 0) (bytes-append l m (bytes-tail x) y)
+
+-- tested
+pub bytes-all : (l : List ℕ) → all (λ a. ltb a 256) l ≡ true → Bytes l
+bytes-all [] e = bytes-none
+bytes-all (a ∷ l) e = bytes-cons (ltb-true a 256 (both-left (ltb a 256) _ e)) (bytes-all l (both-right (ltb a 256) _ e))
+
+pub bytes-left : (l m : List ℕ) → Bytes (l ++ m) → Bytes l
+bytes-left [] m by = bytes-none
+bytes-left (a ∷ l) m by = bytes-cons (by .byte 0) (bytes-left l m (bytes-tail by))
+
+pub bytes-right : (l m : List ℕ) → Bytes (l ++ m) → Bytes m
+bytes-right [] m by = by
+bytes-right (a ∷ l) m by = bytes-right l m (bytes-tail by)
 
 -- the value modulo 2 ^ 64 takes no more of the bytes before than that
 pub value-wraps : (h k : ℕ) (l : List ℕ) → h % 2 ^ 64 ≡ k % 2 ^ 64 → valueFrom h l % 2 ^ 64 ≡ valueFrom k l % 2 ^ 64
@@ -100,6 +118,11 @@ value-bytes h (suc n) x =
 
 pub bytes-back : (n x : ℕ) → x < 256 ^ n → valueOf (bytesOf n x) ≡ x
 bytes-back n x h = value-bytes 0 n x ∙ rw (mod-eq-of-lt h) (omega arith)
+
+-- n bytes are 8 n bits
+pub bits-bytes : (n : ℕ) → 2 ^ (8 * n) ≡ 256 ^ n
+bits-bytes zero = refl
+bits-bytes (suc n) = let e : 8 * suc n ≡ 8 * n + 8 = omega arith in rw (e, pow-add 2 (8 * n) 8, bits-bytes n, pow-suc 256 n)
 
 -- one byte more, before those that are there
 pub one-before : (n x left : ℕ) → left ≡ x / 256 ^ n → (left % 256) ∷ bytesOf n x ≡ bytesOf (n + 1) x

@@ -6,3 +6,5 @@ pub mod Rows
 pub mod Headers
 pub mod Tally
 pub mod Concluded
+pub mod Encode
+pub mod Allowed

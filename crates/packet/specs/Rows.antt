@@ -1,19 +1,22 @@
 -- Document 01, Rows: "A row is four 64-bit words: tag; kind (1 reading, 2 mark, 3 text, 4 carried); the stored code as an
 -- unsigned number (0 for text and carried); place of the value × 65,536 + its length."
-use Prim.Native.Nat.{ℕ, _+_, _-_, _*_}
+use Prim.Native.Nat.{ℕ, zero, suc, _+_, _-_, _*_, _<_}
+use mathlib.Core.Path.{_≡_}
 use mathlib.Core.Bool.{cond}
 use mathlib.Core.List.{List, [], _∷_, _++_}
-use lib.ListN.{length, drop, replicate}
+use lib.ListN.{length, take, drop, replicate}
 use lib.Dec.{ltb}
 use Rattle.refusal.specs.Answer.{Answer, given, refused}
-use Rattle.number.specs.Stored.{valueOf}
+use Rattle.number.specs.Stored.{valueOf, bytesOf}
 use Rattle.tagset.specs.Sets.{holds}
 use Rattle.tagset.specs.declared.TagSet.{TagSet}
 use Rattle.knowing.specs.Good.{good}
 use Rattle.catalogue.specs.declared.Shape.{Shape}
+use Rattle.catalogue.specs.declared.Shape.the-variants.{Text, Number, Absent}
 pub use Rattle.rows.specs.Kinds.{Row, kindIn, codeIn}
 unfoldable pub use Rattle.rows.specs.Kinds.{shapeFor}
-use Rattle.packet.specs.Pieces.{Item}
+use Rattle.rows.specs.Taken.{spotPlace, spotLength, rowAt}
+use Rattle.packet.specs.Pieces.{Piece, Item}
 use Rattle.packet.specs.Judge.{Knowing}
 use Rattle.packet.specs.Verdict.{verdict, counted}
 
@@ -56,3 +59,38 @@ tableBy K t (refused n p g) = t
 
 unfoldable pub readTable : TagSet → List ℕ → List ℕ → List ℕ
 readTable K p t = tableBy (holds K) t (lentVerdict K p t)
+
+-- n rows of a table, from the one numbered k on
+unfoldable pub rowsIn : ℕ → ℕ → List ℕ → List Row
+rowsIn k zero t = []
+rowsIn k (suc n) t = rowAt t k ∷ rowsIn (suc k) n t
+
+-- the bytes that a row points at in a buffer
+abbrev pub bytesAt : List ℕ → Row → List ℕ
+bytesAt b r = take (spotLength (r .spot)) (drop (spotPlace (r .spot)) b)
+
+-- the value that a row stands for: its code's bytes, or those that it points at
+abbrev pub valueIn : Shape → List ℕ → Row → List ℕ
+valueIn (Number width marked) b r = bytesOf width (r .code)
+valueIn Text b r = bytesAt b r
+valueIn Absent b r = bytesAt b r
+
+unfoldable pub pieceOf : Knowing → List ℕ → Row → Piece
+pieceOf K b r = record { tag = r .tag; value = valueIn (shapeFor K (r .tag)) b r }
+
+unfoldable pub piecesOf : Knowing → List ℕ → List Row → List Piece
+piecesOf K b [] = []
+piecesOf K b (r ∷ rs) = pieceOf K b r ∷ piecesOf K b rs
+
+-- The same table is "the same count, tags, kinds, codes and lengths, and for text and carried rows the same value bytes; places and
+-- the checksum's code are left aside." b and c are the buffers that the rows point into.
+pub record SameRow (b c : List ℕ) (r s : Row) : Type 0 where
+  pub tag : r .tag ≡ s .tag
+  pub kind : r .kind ≡ s .kind
+  pub code : (r .tag ≡ 1 → ⊥) → r .code ≡ s .code
+  pub size : spotLength (r .spot) ≡ spotLength (s .spot)
+  pub value : 2 < r .kind → bytesAt b r ≡ bytesAt c s
+
+pub data SameTable (b c : List ℕ) : List Row → List Row → Type 0 where
+  noRows : SameTable b c [] []
+  oneMore : {r s : Row} {rs ss : List Row} → SameRow b c r s → SameTable b c rs ss → SameTable b c (r ∷ rs) (s ∷ ss)

@@ -1,0 +1,12 @@
+pub mod Items
+pub mod Structure
+pub mod Clean
+pub mod Accepted
+pub mod Receivers
+pub mod Tables
+pub mod Written
+pub mod Forward
+pub mod Sent
+pub mod Rows
+pub mod Readings
+pub mod Shortest

@@ -1,0 +1,140 @@
+-- A row that is not bad is the row that its receiver gives the piece it stands for, and no row of an accepted packet is bad.
+-- Assumes nothing.
+use Prim.Native.Nat.{ℕ, _+_, _*_, _^_, _<_}
+use native.Mathlib.Omega.{arith}
+use mathlib.Core.Path.{_≡_, refl, sym, _∙_}
+use mathlib.Core.Bool.{Bool, true, false, _&&_}
+use mathlib.Core.List.{List, [], _∷_}
+use lib.ListN.{length, length-take, length-drop}
+use lib.Arith.{digits-div, digits-mod}
+use lib.Dec.{ltb, leb, eqb}
+use borrow.Author.Tests.{ltb-true, leb-true, eqb-true, lt-ltb, le-leb, eq-eqb, ne-eqb}
+use Rattle.base.specs.Cases.{byBool, byEq, never}
+use Rattle.base.specs.Every.{Each, both-left, both-right, both-true}
+use Rattle.refusal.specs.Answer.{given}
+use Rattle.number.specs.Stored.{Bytes, valueOf, bytesOf}
+use Rattle.number.proofs.Laws.{bits-bytes, bytes-back, length-bytesOf, value-small}
+use Rattle.catalogue.specs.Items.{groups, member, itemIn, itemOf}
+use Rattle.catalogue.specs.Shapes.{shapeOf}
+use Rattle.catalogue.specs.declared.Shape.{Shape}
+use Rattle.catalogue.specs.declared.Shape.the-variants.{Text, Number, Absent}
+use Rattle.rows.specs.Kinds.{Row, shapeFor, kindIn, codeIn}
+use Rattle.rows.specs.Taken.{spotPlace, spotLength, tagGood, codeGood, contentGood, rowGood}
+use Rattle.packet.specs.Pieces.{Item, pieces}
+use Rattle.packet.specs.Judge.{Knowing}
+use Rattle.packet.specs.Verdict.{verdict}
+use Rattle.packet.specs.Rows.{rowBy, rowOf, rowsOf, bytesAt, pieceOf, piecesOf}
+use Rattle.laws.proofs.Structure.{structure-formed}
+use Rattle.laws.proofs.Accepted.{accepts}
+use Rattle.laws.proofs.Written.{Tagged}
+use Rattle.laws.proofs.Forward.{items-tagged}
+use Rattle.laws.proofs.Sent.{Lies, lies-bytes, SizedFor, number-width, accepted-sized, accepted-lie}
+
+-- a row that is not bad, over a buffer
+abbrev pub GoodRow : Knowing → List ℕ → Row → Type 0
+GoodRow K b r = rowGood (shapeFor K (r .tag)) (length b) r ≡ true
+
+-- a row as a receiver gives it to the piece that it stands for; the checksum's code is any
+pub record Made (K : Knowing) (b : List ℕ) (r : Row) : Type 0 where
+  pub kind : r .kind ≡ kindIn (shapeFor K (r .tag)) (valueOf (pieceOf K b r .value))
+  pub code : (r .tag ≡ 1 → ⊥) → r .code ≡ codeIn (shapeFor K (r .tag)) (valueOf (pieceOf K b r .value))
+  pub size : spotLength (r .spot) ≡ length (pieceOf K b r .value)
+
+-- the checksum has no mark
+sum-unmarked : (K : Knowing) (width : ℕ) (marked : Bool) → shapeFor K 1 ≡ Number width marked → marked ≡ false
+unfolding shapeFor shapeOf itemOf itemIn groups member
+sum-unmarked K width marked e =
+    byBool (K 1)
+    (λ k. let f : Number 2 false ≡ Number width marked = rw k at e in cc)
+    (λ k. let f : Absent ≡ Number width marked = rw k at e in never (cc))
+
+module _ (K : Knowing) (b : List ℕ) (r : Row) where
+  number-made : (width : ℕ) (marked : Bool) → shapeFor K (r .tag) ≡ Number width marked → r .kind ≡ kindIn (Number width marked) (r .code)
+      → contentGood (Number width marked) (length b) r ≡ true → Made K b r
+  unfolding pieceOf
+  number-made width marked f k c =
+      let same : spotLength (r .spot) ≡ width = eqb-true _ _ (both-left (eqb (spotLength (r .spot)) width) _ c) in
+      let size : spotLength (r .spot) ≡ length (bytesOf width (r .code)) = same ∙ sym (length-bytesOf width (r .code)) in
+      byEq (r .tag) 1
+      (λ one.
+      let plain : marked ≡ false = sum-unmarked K width marked (rw one at f) in
+      record { kind = rw f (k ∙ rw plain); code = λ other. absurd (other one); size = rw f size })
+      (λ other.
+      let wide : ltb (r .code) (2 ^ (8 * width)) ≡ true = rw (ne-eqb (r .tag) 1 other) at (both-right (eqb (spotLength (r .spot)) width) _ c) in
+      let fits : r .code < 256 ^ width = rw (bits-bytes width) at (ltb-true (r .code) (2 ^ (8 * width)) wide) in
+      let back : valueOf (bytesOf width (r .code)) ≡ r .code = bytes-back width (r .code) fits in
+      record { kind = rw (f, back) k; code = λ z. rw f (sym back); size = rw f size })
+
+  part-size : leb (spotPlace (r .spot) + spotLength (r .spot)) (length b) ≡ true → spotLength (r .spot) ≡ length (bytesAt b r)
+  part-size e = rw (length-take, length-drop) (omega (arith, leb-true (spotPlace (r .spot) + spotLength (r .spot)) (length b) e))
+
+  -- a row that is not bad is made so
+  pub good-made : GoodRow K b r → Made K b r
+  unfolding rowGood pieceOf
+  good-made e =
+      let e′ = both-right (tagGood (r .tag)) _ e in
+      let shape : Shape = shapeFor K (r .tag) in
+      go shape refl (eqb-true _ _ (both-left (eqb (r .kind) (kindIn shape (r .code))) _ e′)) (both-right (eqb (r .kind) (kindIn shape (r .code))) _ e′)
+    where
+      go : (s : Shape) → shapeFor K (r .tag) ≡ s → r .kind ≡ kindIn s (r .code) → contentGood s (length b) r ≡ true → Made K b r
+      go (Number width marked) f k c = number-made width marked f k c
+      go Text f k c =
+          record { kind = rw f k; code = λ other. rw f (eqb-true _ _ (both-left (eqb (r .code) 0) _ c)); size = rw f (part-size (both-right (eqb (r .code) 0) _ c)) }
+      go Absent f k c =
+          record { kind = rw f k; code = λ other. rw f (eqb-true _ _ (both-left (eqb (r .code) 0) _ c)); size = rw f (part-size (both-right (eqb (r .code) 0) _ c)) }
+
+  -- and its piece's tag can be written
+  pub good-tagged : GoodRow K b r → Tagged (pieceOf K b r)
+  unfolding rowGood pieceOf
+  good-tagged e =
+      let t = both-left (tagGood (r .tag)) _ e in
+      record { some = ltb-true _ _ (both-left (ltb 0 (r .tag)) _ t); small = ltb-true _ _ (both-right (ltb 0 (r .tag)) _ t) }
+
+pub all-made : (K : Knowing) (b : List ℕ) (rs : List Row) → Each (GoodRow K b) rs → Each (Made K b) rs
+all-made K b [] g = tt
+all-made K b (r ∷ rs) g = (good-made K b r (g .0), all-made K b rs (g .1))
+
+pub all-tagged : (K : Knowing) (b : List ℕ) (rs : List Row) → Each (GoodRow K b) rs → Each Tagged (piecesOf K b rs)
+unfolding piecesOf
+all-tagged K b [] g = tt
+all-tagged K b (r ∷ rs) g = (good-tagged K b r (g .0), all-tagged K b rs (g .1))
+
+-- the row of an item that lies in the packet is not bad
+good-row : (K : Knowing) (p : List ℕ) (i : Item) → Bytes p → Tagged (i .piece) → Lies p i → SizedFor K (i .piece) → GoodRow K p (rowOf K i)
+unfolding rowGood rowOf
+good-row K p i by t l s =
+    both-true (tagGood (i .piece .tag)) _ (both-true _ _ (lt-ltb _ _ (t .some)) (lt-ltb _ _ (t .small)))
+    (go (shapeFor K (i .piece .tag)) refl)
+  where
+    v : List ℕ
+    v = i .piece .value
+
+    size : spotLength (i .place * 65536 + length v) ≡ length v
+    size = digits-mod (i .place) (l .short)
+
+    part : leb (spotPlace (i .place * 65536 + length v) + spotLength (i .place * 65536 + length v)) (length p) ≡ true
+    part = rw (size, digits-div (i .place) (l .short)) (le-leb _ _ (l .inside))
+
+    go : (x : Shape) → shapeFor K (i .piece .tag) ≡ x
+        → eqb (kindIn x (valueOf v)) (kindIn x (codeIn x (valueOf v))) && contentGood x (length p) (rowBy x i) ≡ true
+    go (Number width marked) f =
+        let w : length v ≡ width = number-width K (i .piece) width marked s f in
+        let fits : valueOf v < 256 ^ width = rw w at (value-small v (lies-bytes p i by l)) in
+        let coded : codeGood (i .piece .tag) width (valueOf v) ≡ true =
+        byBool (eqb (i .piece .tag) 1) (λ e. rw e) (λ e. rw (e, bits-bytes width) (lt-ltb _ _ fits)) in
+        let k : ℕ = kindIn (Number width marked) (valueOf v) in
+        rw (eq-eqb k k refl, eq-eqb (spotLength (i .place * 65536 + length v)) width (size ∙ w)) coded
+    go Text f = part
+    go Absent f = part
+
+good-rows : (K : Knowing) (p : List ℕ) (is : List Item) → Bytes p → Each Tagged (pieces is) → Each (Lies p) is → Each (SizedFor K) (pieces is)
+    → Each (GoodRow K p) (rowsOf K is)
+unfolding rowsOf
+good-rows K p [] by t l s = tt
+good-rows K p (i ∷ is) by t l s = (good-row K p i by (t .0) (l .0) (s .0), good-rows K p is by (t .1) (l .1) (s .1))
+
+-- no row of an accepted packet is bad, the packet being the buffer
+pub rows-good : (K : Knowing) (p : List ℕ) (is : List Item) → Bytes p → verdict K p ≡ given is → Each (GoodRow K p) (rowsOf K is)
+rows-good K p is by e =
+    let tags = items-tagged (structure-formed p is by (accepts K p is e .found) .items) in
+    good-rows K p is by tags (accepted-lie K p is by e) (accepted-sized K p is by e)

@@ -1,0 +1,157 @@
+-- Demand 3, first half, over the tables: the same row for every item whose tag the smaller set knows, and a carried row for every other.
+-- Assumes nothing.
+use Prim.Native.Nat.{ℕ, zero, suc, _+_, _*_, _<_, _≤_}
+use native.Mathlib.Omega.{arith}
+use native.Mathlib.Nat.{add-zero}
+use mathlib.Core.Path.{_≡_, refl, ap, _∙_}
+use mathlib.Core.Bool.{true, false}
+use mathlib.Core.List.{List, [], _∷_, _++_}
+use lib.ListN.{length, getD}
+use lib.Dec.{ltb}
+use borrow.Author.Tests.{ltb-false, le-ltb}
+use Rattle.base.specs.Cases.{never}
+use Rattle.refusal.specs.Answer.{Answer, given, refused}
+use Rattle.number.specs.Stored.{Bytes}
+use Rattle.tagset.specs.Sets.{holds}
+use Rattle.tagset.specs.declared.TagSet.{TagSet}
+use Rattle.tagset.proofs.Laws.{Included}
+use Rattle.knowing.specs.Good.{good}
+use Rattle.packet.specs.Pieces.{Item}
+use Rattle.packet.specs.Judge.{Knowing}
+use Rattle.packet.specs.Verdict.{counted, verdict}
+use Rattle.packet.specs.Allowed.{Allowed}
+use Rattle.rows.specs.Kinds.{shapeFor, Row}
+use Rattle.rows.specs.Taken.{rowAt}
+use Rattle.packet.specs.Rows.{rowOf, rowsOf, words, tableOf, lentVerdict, readAnswer, readTable, rowsIn}
+use Rattle.laws.proofs.Structure.{passed, missed}
+use Rattle.laws.proofs.Accepted.{accepted-allowed, allowed-accepted}
+use Rattle.laws.proofs.Receivers.{Below, Only, larger-accepts, larger-refuses}
+
+abbrev itemIn : List Item → ℕ → Item
+itemIn is k = getD is k (record { start = 0; place = 0; piece = record { tag = 0; value = [] } })
+
+-- the row of the same item, carried: kind 4, code 0, the same place and length
+abbrev pub carried : Row → Row
+carried r = record { tag = r .tag; kind = 4; code = 0; spot = r .spot }
+
+-- an item's two rows
+module _ (K K′ : Knowing) (i : Item) where
+  -- who knows the tag gives the row that everyone gives who knows more
+  pub known-row : Below K K′ → K (i .piece .tag) ≡ true → rowOf K i ≡ rowOf K′ i
+  unfolding rowOf shapeFor
+  known-row below e = rw (e, below (i .piece .tag) e)
+
+  -- who does not know the tag carries
+  pub unknown-row : K (i .piece .tag) ≡ false → rowOf K i ≡ carried (rowOf K′ i)
+  unfolding rowOf shapeFor
+  unknown-row e = rw e
+
+-- the rows are in the table, four words each
+row-in : (K : Knowing) (is : List Item) (rest : List ℕ) (k : ℕ) → k < length is → rowAt (words (rowsOf K is) ++ rest) k ≡ rowOf K (itemIn is k)
+unfolding words rowsOf rowAt
+row-in K [] rest k h = absurd (omega arith)
+row-in K (i ∷ is) rest zero h = refl
+row-in K (i ∷ is) rest (suc k) h =
+    let none : 4 * suc k ≡ suc (suc (suc (suc (4 * k)))) = omega arith in
+    let some : (n : ℕ) → suc (suc (suc (suc (4 * k)))) + n ≡ suc (suc (suc (suc (4 * k + n)))) = λ n. omega arith in
+    rw (none, some 1, some 2, some 3) (row-in K is rest k (omega arith))
+
+row-in-table : (K : Knowing) (is : List Item) (t : List ℕ) (k : ℕ) → k < length is → rowAt (tableOf K is t) k ≡ rowOf K (itemIn is k)
+unfolding tableOf
+row-in-table K is t k h = row-in K is _ k h
+
+all-rows : (K : Knowing) (is : List Item) (t : List ℕ) (k : ℕ) → ((j : ℕ) → j < length is → rowAt t (k + j) ≡ rowOf K (itemIn is j))
+    → rowsIn k (length is) t ≡ rowsOf K is
+unfolding rowsOf rowsIn
+all-rows K [] t k h = refl
+all-rows K (i ∷ is) t k h =
+    let first : rowAt t k ≡ rowOf K i = rw add-zero at (h 0 (omega arith)) in
+    let others : (j : ℕ) → j < length is → rowAt t (suc k + j) ≡ rowOf K (itemIn is j) = λ j l.
+    rw (let e : suc k + j ≡ k + suc j = omega arith in e) (h (suc j) (omega arith)) in
+    rw (first, all-rows K is t (suc k) others)
+
+pub rows-in-table : (K : Knowing) (is : List Item) (t : List ℕ) (n : ℕ) → length is ≡ n → rowsIn 0 n (tableOf K is t) ≡ rowsOf K is
+rows-in-table K is t n e =
+    rw (← e) (all-rows K is (tableOf K is t) 0 (λ j h. rw (let z : 0 + j ≡ j = omega arith in z) (row-in-table K is t j h)))
+
+-- what a receiver that answers a count has read: its set is good, its table long enough, and the table's rows are the items' own
+pub record HasRead (K : TagSet) (p t : List ℕ) (n : ℕ) : Type 0 where
+  pub items : List Item
+  pub count : length items ≡ n
+  pub right : good K ≡ true
+  pub long : 512 ≤ length t
+  pub accepted : verdict (holds K) p ≡ given items
+  pub table : readTable K p t ≡ tableOf (holds K) items t
+
+pub has-read : (K : TagSet) (p t : List ℕ) (n : ℕ) → readAnswer K p t ≡ given n → HasRead K p t n
+unfolding readAnswer readTable lentVerdict
+has-read K p t n e = go (lentVerdict K p t) refl e
+  where
+    go : (a : Answer (List Item)) → lentVerdict K p t ≡ a → counted a ≡ given n → HasRead K p t n
+    go (given is) f c =
+        let g = passed (good K) _ 1 0 0 f in
+        let h = missed (ltb (length t) 512) _ 2 0 0 (g .1) in
+        record { items = is; count = cc; right = g .0; long = ltb-false _ _ (h .0); accepted = h .1; table = rw f }
+    go (refused m a u) f c = never (cc)
+
+-- a good set and a table of at least 512 words
+module _ (K : TagSet) (p t : List ℕ) (g : good K ≡ true) (long : 512 ≤ length t) where
+  pub lent-verdict : lentVerdict K p t ≡ verdict (holds K) p
+  unfolding lentVerdict
+  lent-verdict = rw (g, le-ltb (length t) 512 long)
+
+  answer-given : (is : List Item) → verdict (holds K) p ≡ given is → readAnswer K p t ≡ given (length is)
+  unfolding readAnswer
+  answer-given is e = rw (lent-verdict, e)
+
+  table-given : (is : List Item) → verdict (holds K) p ≡ given is → readTable K p t ≡ tableOf (holds K) is t
+  unfolding readTable
+  table-given is e = rw (lent-verdict, e)
+
+  -- who has a good set and a table of at least 512 words reads every packet that is allowed
+  pub allowed-read : (is : List Item) → Allowed (holds K) p is → (readAnswer K p t ≡ given (length is)) × (readTable K p t ≡ tableOf (holds K) is t)
+  allowed-read is a = let e = allowed-accepted (holds K) p is a in (answer-given is e, table-given is e)
+
+  answer-refused : (n a u : ℕ) → readAnswer K p t ≡ refused n a u → verdict (holds K) p ≡ refused n a u
+  unfolding readAnswer
+  answer-refused n a u e = go (verdict (holds K) p) (rw lent-verdict at e)
+    where
+      go : (x : Answer (List Item)) → counted x ≡ refused n a u → x ≡ refused n a u
+      go (given is) f = never (cc)
+      go (refused m b v) f = cc
+
+-- who answers a count reads what is allowed
+pub read-allowed : (K : TagSet) (p t : List ℕ) (n : ℕ) → Bytes p → readAnswer K p t ≡ given n → (is : List Item) × (length is ≡ n) × Allowed (holds K) p is
+read-allowed K p t n by e = let r = has-read K p t n e in (r .items, r .count, accepted-allowed (holds K) p (r .items) by (r .accepted))
+
+-- the row that K gives, beside the row that K′ gives to the same item
+pub record SmallerRow (K : Knowing) (r r′ : Row) : Type 0 where
+  pub known : K (r′ .tag) ≡ true → r ≡ r′
+  pub unknown : K (r′ .tag) ≡ false → r ≡ carried r′
+
+-- two good sets, one included in the other, and two tables of at least 512 words
+module _ (K K′ : TagSet) (g : good K ≡ true) (g′ : good K′ ≡ true) (within : Included K K′)
+    (p t t′ : List ℕ) (long : 512 ≤ length t) (long′ : 512 ≤ length t′) where
+  smaller : (n : ℕ) (r : HasRead K′ p t′ n) → verdict (holds K) p ≡ given (r .items)
+  smaller n r = larger-accepts (holds K) (holds K′) (within .each) p (r .items) (r .accepted)
+
+  -- a packet that the larger accepts the smaller accepts, with as many rows
+  pub read-larger : (n : ℕ) → readAnswer K′ p t′ ≡ given n → readAnswer K p t ≡ given n
+  read-larger n e = let r = has-read K′ p t′ n e in answer-given K p t g long (r .items) (smaller n r) ∙ ap given (r .count)
+
+  -- the same row for every item whose tag the smaller knows, a carried one with the same place and length for every other
+  pub read-rows : (n k : ℕ) → readAnswer K′ p t′ ≡ given n → k < n → SmallerRow (holds K) (rowAt (readTable K p t) k) (rowAt (readTable K′ p t′) k)
+  unfolding rowOf
+  read-rows n k e h =
+      let r = has-read K′ p t′ n e in
+      let is : List Item = r .items in
+      let l : k < length is = omega (arith, r .count) in
+      let i : Item = itemIn is k in
+      rw (table-given K p t g long is (smaller n r), r .table, row-in-table (holds K) is t k l, row-in-table (holds K′) is t′ k l)
+      (record { known = known-row (holds K) (holds K′) i (within .each); unknown = unknown-row (holds K) (holds K′) i })
+
+  -- where only the larger refuses, it does so at a tag that only it knows
+  pub read-only : (n m a u : ℕ) → readAnswer K p t ≡ given n → readAnswer K′ p t′ ≡ refused m a u → Only (holds K) (holds K′) u
+  read-only n m a u e f =
+      let r = has-read K p t n e in
+      larger-refuses (holds K) (holds K′) (within .each) p (r .items) m a u (r .accepted) (answer-refused K′ p t′ g′ long′ m a u f)
