@@ -1,0 +1,4 @@
+pub mod Nearest
+pub mod Whole
+pub mod Rule
+pub mod Items

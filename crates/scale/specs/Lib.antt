@@ -1,0 +1,5 @@
+pub mod Nearest
+pub mod Scales
+pub mod Conversions
+pub mod Rule
+pub mod Said
