@@ -2,3 +2,5 @@ pub mod Nearest
 pub mod Whole
 pub mod Rule
 pub mod Items
+pub mod Sides
+pub mod Numbers

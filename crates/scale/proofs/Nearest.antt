@@ -2,7 +2,7 @@
 -- Assumes nothing.
 use Prim.Native.Nat.{ℕ, suc, _+_, _-_, _*_, _/_, _%_, _<_, _≤_}
 use native.Mathlib.Omega.{arith}
-use native.Mathlib.Nat.{mul-comm, mul-assoc, mul-left-comm, mul-add, add-mul, mul-pos, mod-lt, div-add-mod, div-eq-of-lt-le, mul-div-mul-left, mul-le-mul-left, mul-suc}
+use native.Mathlib.Nat.{mul-comm, mul-assoc, mul-left-comm, mul-add, add-mul, mul-pos, mod-lt, div-add-mod, div-eq-of-lt-le, mul-div-mul-left, mul-le-mul-left, mul-le-mul-right, mul-suc, mul-zero}
 use mathlib.Core.Path.{_≡_, refl, sym, ap, _∙_}
 use Rattle.base.specs.Cases.{byLt}
 use Rattle.scale.specs.Nearest.{nearest}
@@ -37,6 +37,9 @@ nearest-cancel k p q some =
 pub nearest-whole : (k q : ℕ) → 0 < q → nearest (q * k) q ≡ k
 nearest-whole k q some = nearest-only (q * k) q k (record { over = omega arith; under = omega arith })
 
+pub nearest-none : (q : ℕ) → 0 < q → nearest 0 q ≡ 0
+nearest-none q some = ap (λ p. nearest p q) (sym (mul-zero q)) ∙ nearest-whole 0 q some
+
 -- one code more is q more
 next : (q k l : ℕ) → k < l → q * k + q ≤ q * l
 next q k l h = let e = mul-le-mul-left q (let g : suc k ≤ l = h in g) in omega (arith, e, mul-suc q k)
@@ -47,6 +50,10 @@ nearest-grows p r q some h =
     (λ less. absurd (omega (arith, nearest-is p q some, nearest-is r q some, next q _ _ less)))
     (λ more. more)
 
+-- of the whole no more than the whole
+pub nearest-top : (far q k : ℕ) → 0 < q → far ≤ q → nearest (far * k) q ≤ k
+nearest-top far q k some h = omega (arith, nearest-grows (far * k) (q * k) q some (mul-le-mul-right k h), nearest-whole k q some)
+
 -- no tie occurs where q is odd: both inequalities are strict
 pub no-tie : (p q k : ℕ) → q % 2 ≡ 1 → 2 * (q * k) ≡ 2 * p + q → ⊥
 no-tie p q k odd e = omega arith
@@ -56,7 +63,7 @@ abbrev pub gap : ℕ → ℕ → ℕ
 gap a b = a - b + (b - a)
 
 -- no other whole number is nearer to p / q, and at equal distance the nearest is the larger one
-pub none-nearer : (p q k : ℕ) → 0 < q → gap (q * nearest p q) p ≤ gap (q * k) p
+pub none-nearer : (p q k : ℕ) → 0 < q → gap p (q * nearest p q) ≤ gap p (q * k)
 none-nearer p q k some =
     let n = nearest-is p q some in
     byLt k (nearest p q)
@@ -65,7 +72,7 @@ none-nearer p q k some =
     (λ less. omega (arith, n .over, n .under, next q _ k less))
     (λ same. let e : nearest p q ≡ k = omega arith in rw e (omega arith)))
 
-pub tie-up : (p q k : ℕ) → 0 < q → gap (q * nearest p q) p ≡ gap (q * k) p → k ≤ nearest p q
+pub tie-up : (p q k : ℕ) → 0 < q → gap p (q * nearest p q) ≡ gap p (q * k) → k ≤ nearest p q
 tie-up p q k some e =
     let n = nearest-is p q some in
     byLt (nearest p q) k

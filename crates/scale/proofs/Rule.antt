@@ -38,6 +38,7 @@ tests i =
     ∷ ltb (depth i * (steps i / shared i)) (2 ^ 63)
     ∷ ltb (reach i * (steps i / shared i)) (2 ^ 63)
     ∷ leb (lowest i) (under i)
+    ∷ leb (nearest (under i * reach i) (steps i)) (depth i)
     ∷ []
 
 passes : Bool → Bool
@@ -54,7 +55,7 @@ all-ruled = refl
 keeps : (i : Item) → all passes (tests i) ≡ true → Rule i
 unfolding tests passes
 keeps i e =
-    let held : (k : ℕ) → k < 16 → getD (tests i) k true ≡ true = all-at passes (tests i) true e in
+    let held : (k : ℕ) → k < 17 → getD (tests i) k true ≡ true = all-at passes (tests i) true e in
     record {
       narrow = ltb-true _ _ (held 0 (omega arith));
       halves = eqb-true _ _ (held 1 (omega arith));
@@ -72,6 +73,7 @@ keeps i e =
       deep-small = ltb-true _ _ (held 13 (omega arith));
       high-fits = ltb-true _ _ (held 14 (omega arith));
       lowest-under = leb-true _ _ (held 15 (omega arith));
+      under-inside = leb-true _ _ (held 16 (omega arith));
     }
 
 pub rule : (t : ℕ) (i : Item) → itemOf t ≡ Known i → scaled i ≡ true → Rule i

@@ -67,7 +67,7 @@ pub to-origin : (o x : ℤ) → (o +ℤ x) -ℤ o ≡ x
 to-origin o x = ap (λ y. y -ℤ o) (+ℤ-comm o x) ∙ +ℤ-negℤ-cancel x o
 
 -- so far above a number is not below it, and so far below it is, unless it is not far at all
-above : (o : ℤ) (m : ℕ) → ltZ (o +ℤ pos m) o ≡ false
+pub above : (o : ℤ) (m : ℕ) → ltZ (o +ℤ pos m) o ≡ false
 above (pos a) m = le-ltb (a + m) a (omega arith)
 above (negsuc a) m =
     byLt m (suc a)

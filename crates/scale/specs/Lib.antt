@@ -2,4 +2,5 @@ pub mod Nearest
 pub mod Scales
 pub mod Conversions
 pub mod Rule
+pub mod Exact
 pub mod Said

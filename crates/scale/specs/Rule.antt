@@ -42,6 +42,7 @@ pub record Rule (i : Item) : Type 0 where
   pub deep-small : depth i * (steps i / shared i) < 2 ^ 63
   pub high-fits : reach i * (steps i / shared i) < 2 ^ 63
   pub lowest-under : lowest i ≤ under i
+  pub under-inside : nearest (under i * reach i) (steps i) ≤ depth i
 
 -- an item's scale as the code has it
 pub record Scales (i : Item) (s : Scale) : Type 0 where
