@@ -4,3 +4,5 @@ pub mod Rule
 pub mod Items
 pub mod Sides
 pub mod Numbers
+pub mod Given
+pub mod Values

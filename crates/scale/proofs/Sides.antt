@@ -87,6 +87,16 @@ module _ (b c : Bool) (k p q : ℕ) (some : 0 < q) where
       none zero h = omega arith
       none (suc k) h = absurd (omega (arith, suc-mul k q))
 
+-- on the other side only nothing is as near
+pub other-side-tie : (b : Bool) (k p q : ℕ) → 0 < q → natAbs (side b p -ℤ side b (nearest p q * q)) ≡ natAbs (side b p -ℤ side (not b) (k * q)) → k ≡ 0
+other-side-tie b k p q some =
+    rw (one-side b p (nearest p q * q), mul-comm (nearest p q) q, across b p (k * q))
+    (λ h. none k (omega (arith, rw (mul-zero q) at (none-nearer p q 0 some))))
+  where
+    none : (k : ℕ) → k * q ≤ 0 → k ≡ 0
+    none zero h = refl
+    none (suc k) h = absurd (omega (arith, suc-mul k q))
+
 -- one side more makes no difference where there is nothing
 pub side-drop : (b : Bool) (m n : ℕ) → (m ≡ 0 → n ≡ 0) → side (b && ltb 0 m) n ≡ side b n
 side-drop true zero n h = rw (h refl)
