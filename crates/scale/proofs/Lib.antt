@@ -6,3 +6,7 @@ pub mod Sides
 pub mod Numbers
 pub mod Given
 pub mod Values
+pub mod Codes
+pub mod Trips
+pub mod Degrees
+pub mod Outcomes
