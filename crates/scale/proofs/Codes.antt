@@ -3,11 +3,9 @@
 use Prim.Native.Nat.{ℕ, _-_, _*_, _<_, _≤_}
 use native.Mathlib.Omega.{arith}
 use native.Mathlib.Nat.{zero-mul}
-use mathlib.Core.Path.{_≡_, refl, sym, ap, ap₂, _∙_}
-use mathlib.Core.Bool.{Bool, true, false, not, cond, _&&_}
-use lib.Dec.{ltb}
-use lib.IntN.{ℤ, pos, natAbs, _-ℤ_}
-use lib.Signed.{ltZ}
+use mathlib.Core.Path.{_≡_, sym, ap, ap₂, _∙_}
+use mathlib.Core.Bool.{Bool, true, false, not}
+use lib.IntN.{ℤ, natAbs, _-ℤ_}
 use borrow.Author.Tests.{lt-ltb}
 use Rattle.base.specs.Cases.{byBool, byLt, clash}
 use Rattle.base.specs.Every.{both-left}
@@ -20,12 +18,11 @@ use Rattle.scale.specs.Scales.{codes, origin, reach, steps, isNumber, is
 use Rattle.scale.specs.Conversions.{codeOf, toCode}
 use Rattle.scale.specs.Exact.{miss}
 use Rattle.scale.specs.Rule.{Rule}
-use Rattle.scale.proofs.Nearest.{nearest-none}
 use Rattle.scale.proofs.Whole.{sided}
 use Rattle.scale.proofs.Sides.{side-drop, side-nearest, side-tie, other-side-tie}
 use Rattle.scale.proofs.Items.{number-fits}
 use Rattle.scale.proofs.Numbers.{Coded, code-coded}
-use Rattle.scale.proofs.Given.{Scaled, scaled-rule, CodeGiven, code-given, code-is-number}
+use Rattle.scale.proofs.Given.{scaled-rule, code-given, code-is-number}
 use Rattle.scale.proofs.Values.{miss-is}
 
 pub record NearestCode (i : Item) (v : ℤ) (code : ℕ) : Type 0 where
@@ -45,6 +42,7 @@ module _ (i : Item) (r : Rule i) where
     where
       same : (c : ℕ) → codeBelow i c ≡ true → codeFar i c ≡ codes i - c
       same c e = rw e
+
       plain : (c : ℕ) → codeBelow i c ≡ false → codeFar i c ≡ c
       plain c e = rw e
 

@@ -3,16 +3,14 @@
 use Prim.Native.Nat.{ℕ, _-_, _*_, _<_, _≤_}
 use native.Mathlib.Omega.{arith}
 use mathlib.Core.Path.{_≡_, refl, ap, _∙_}
-use mathlib.Core.Bool.{true, false}
-use lib.IntN.{ℤ, pos, negℤ, +ℤ-idl}
+use lib.IntN.{pos, negℤ, +ℤ-idl}
 use borrow.Author.Tests.{lt-ltb, le-leb, lt-leb}
 use Rattle.refusal.specs.Answer.{given}
 use Rattle.catalogue.specs.Items.{groups, member, itemIn, itemOf}
 use Rattle.catalogue.specs.declared.Item.{Item}
 use Rattle.catalogue.specs.declared.Sign.the-variants.{Signed}
-use Rattle.catalogue.specs.declared.Found.the-variants.{Known}
 use Rattle.scale.specs.Nearest.{nearest}
-use Rattle.scale.specs.Scales.{codes, half, origin, reach, steps, side}
+use Rattle.scale.specs.Scales.{codes, half, origin, reach, steps}
 use Rattle.scale.specs.Conversions.{houseOf, toHouse}
 use Rattle.scale.proofs.Nearest.{nearest-whole}
 use Rattle.scale.proofs.Given.{Scaled, every-code-converts}

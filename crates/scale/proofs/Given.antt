@@ -1,25 +1,25 @@
 -- When a conversion gives a value and when it refuses: every code that fits and is no mark converts, every value in the range converts,
 -- and 19, 20 and 21 come exactly where document 01 says. A mark is never the answer.
 -- Assumes nothing.
-use Prim.Native.Nat.{ℕ, _<_}
+use Prim.Native.Nat.{ℕ}
 use native.Mathlib.Omega.{arith}
-use mathlib.Core.Path.{_≡_, refl, sym, ap, _∙_}
-use mathlib.Core.Bool.{Bool, true, false, not}
+use mathlib.Core.Path.{_≡_, refl, ap}
+use mathlib.Core.Bool.{true, false, not}
 use lib.Dec.{ltb}
 use lib.IntN.{ℤ}
-use Rattle.base.specs.Cases.{byBool, clash}
+use Rattle.base.specs.Cases.{byBool}
 use Rattle.base.specs.Every.{both-true}
 use borrow.Author.Tests.{lt-ltb}
-use Rattle.refusal.specs.Answer.{Answer, given, refused}
+use Rattle.refusal.specs.Answer.{given, refused}
 use Rattle.catalogue.specs.Items.{itemOf}
 use Rattle.catalogue.specs.declared.Item.{Item}
 use Rattle.catalogue.specs.declared.Found.{Found}
 use Rattle.catalogue.specs.declared.Found.the-variants.{Known, Absent}
-use Rattle.scale.specs.Scales.{scaled, codes, isMark, isNumber, isOutside}
+use Rattle.scale.specs.Scales.{scaled, codes, isNumber, isOutside}
 use Rattle.scale.specs.Conversions.{houseOf, houseBy, toHouse, codeOf, codeBy, toCode}
 use Rattle.scale.specs.Rule.{Rule}
 use Rattle.scale.proofs.Rule.{rule}
-use Rattle.scale.proofs.Numbers.{Coded, code-coded}
+use Rattle.scale.proofs.Numbers.{code-coded}
 
 -- a tag has a scale where its item has one
 pub record Scaled (t : ℕ) (i : Item) : Type 0 where
@@ -86,6 +86,7 @@ house-given t code i v e h =
   where
     got : given (houseOf i code) ≡ given v → v ≡ houseOf i code
     got p = cc
+
     not-given : {n p q : ℕ} {C : Type 0} → refused n p q ≡ given v → C
     not-given p = let z : _≡_ {A = ℕ} 0 1 = cc in absurd (omega arith)
 
@@ -105,5 +106,6 @@ code-given t v i code e h =
   where
     got : given (codeOf i v) ≡ given code → code ≡ codeOf i v
     got p = cc
+
     not-given : {n p q : ℕ} {C : Type 0} → refused n p q ≡ given code → C
     not-given p = let z : _≡_ {A = ℕ} 0 1 = cc in absurd (omega arith)

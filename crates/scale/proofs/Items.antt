@@ -1,10 +1,10 @@
 -- What the rule gives for one item: products and values that fit, the reduced fraction, and how far values inside the range are from the origin.
 -- Assumes nothing.
-use Prim.Native.Nat.{ℕ, zero, suc, _+_, _-_, _*_, _/_, _%_, _^_, _<_, _≤_}
+use Prim.Native.Nat.{ℕ, zero, suc, _-_, _*_, _/_, _^_, _<_, _≤_}
 use native.Mathlib.Omega.{arith}
 use native.Mathlib.Nat.{mul-zero, mul-left-comm, mul-le-mul-right, div-one}
 use mathlib.Core.Path.{_≡_, refl, sym, ap, ap₂, _∙_}
-use mathlib.Core.Bool.{Bool, true, false, not, cond, _&&_, _||_}
+use mathlib.Core.Bool.{Bool, true, false, not, _&&_, _||_}
 use lib.Dec.{ltb, leb, eqb}
 use lib.IntN.{ℤ, pos, natAbs, _+ℤ_, _-ℤ_, +ℤ-idr}
 use borrow.Author.Tests.{ltb-true, lt-ltb, le-ltb}
@@ -14,7 +14,7 @@ use Rattle.base.specs.Every.{both-left}
 use Rattle.catalogue.specs.Shapes.{isMarked}
 use Rattle.catalogue.specs.declared.Item.{Item}
 use Rattle.scale.specs.Nearest.{nearest}
-use Rattle.scale.specs.Scales.{signed, codes, half, origin, reach, steps, isNumber, isOutside, codeBelow, codeFar, valueFar}
+use Rattle.scale.specs.Scales.{signed, codes, half, origin, reach, steps, isNumber, codeBelow, valueFar}
 use Rattle.scale.specs.Conversions.{houseOf, codeOf}
 use Rattle.scale.specs.Rule.{shared, depth, under, Rule, Scales, Counted}
 use Rattle.scale.specs.declared.Scale.{Scale}

@@ -2,15 +2,15 @@
 -- Assumes nothing.
 use Prim.Native.Nat.{ℕ, zero, suc, _+_, _-_, _*_, _<_, _≤_}
 use native.Mathlib.Omega.{arith}
-use native.Mathlib.Nat.{zero-mul, mul-comm, mul-le-mul-right}
+use native.Mathlib.Nat.{mul-le-mul-right}
 use mathlib.Core.Path.{_≡_, refl, sym, ap, ap₂, _∙_}
-use mathlib.Core.Bool.{Bool, true, false, not, cond, _&&_, _||_}
-use lib.Dec.{ltb, leb, eqb}
-use lib.IntN.{ℤ, pos, negℤ, natAbs, _+ℤ_, _-ℤ_, +ℤ-comm, negℤ-negℤ}
+use mathlib.Core.Bool.{Bool, true, false, not, _&&_, _||_}
+use lib.Dec.{ltb, eqb}
+use lib.IntN.{ℤ, pos, negℤ, _+ℤ_, _-ℤ_, +ℤ-comm, negℤ-negℤ}
 use lib.Signed.{ltZ}
-use borrow.Author.Tests.{ltb-true, ltb-false, leb-true, leb-false, eqb-false, not-true, lt-ltb, le-ltb, le-leb, lt-leb, eq-eqb, ne-eqb}
-use Rattle.base.specs.Cases.{byBool, byLt, byEq, clash}
-use Rattle.base.specs.Every.{both-left, both-right, both-true}
+use borrow.Author.Tests.{leb-true, leb-false, eqb-false, not-true, lt-ltb, le-leb, lt-leb, ne-eqb}
+use Rattle.base.specs.Cases.{byBool, clash}
+use Rattle.base.specs.Every.{both-left, both-right}
 use Rattle.catalogue.specs.Rows.{isSigned}
 use Rattle.catalogue.specs.Shapes.{isMarked}
 use Rattle.catalogue.specs.declared.Sign.{Sign}
@@ -70,9 +70,9 @@ module _ (i : Item) (r : Rule i) where
       record {
         fits = omega (arith, steps-codes);
         no-mark =
-          byBool (isMarked (i .sign))
-          (λ e. rw (e, ne-eqb far (half i) (λ q. omega (arith, steps-half (marked-signed (i .sign) e)))))
-          (λ e. rw e);
+            byBool (isMarked (i .sign))
+            (λ e. rw (e, ne-eqb far (half i) (λ q. omega (arith, steps-half (marked-signed (i .sign) e)))))
+            (λ e. rw e);
         side-of = low;
         far-of = rw low;
       }
@@ -88,9 +88,9 @@ module _ (i : Item) (r : Rule i) where
       record {
         fits = omega (arith, r .halves, some-half);
         no-mark =
-          byBool (isMarked (i .sign))
-          (λ e. let k : far ≤ steps i = rw (s, e) at h in rw (e, ne-eqb (codes i - far) (half i) (λ q. omega (arith, r .halves, steps-half s))))
-          (λ e. rw e);
+            byBool (isMarked (i .sign))
+            (λ e. let k : far ≤ steps i = rw (s, e) at h in rw (e, ne-eqb (codes i - far) (half i) (λ q. omega (arith, r .halves, steps-half s))))
+            (λ e. rw e);
         side-of = low ∙ sym (lt-ltb 0 far some);
         far-of = rw low (omega (arith, r .halves));
       }

@@ -2,14 +2,13 @@
 -- Assumes nothing.
 use Prim.Native.Nat.{ℕ, zero, suc, _+_, _-_, _*_, _%_, _<_, _≤_}
 use native.Mathlib.Omega.{arith}
-use native.Mathlib.Nat.{zero-mul, mul-zero, mul-comm, suc-mul, mul-sub, mul-add}
-use mathlib.Core.Path.{_≡_, refl, sym, ap, ap₂, _∙_}
+use native.Mathlib.Nat.{zero-mul, mul-zero, mul-comm, suc-mul}
+use mathlib.Core.Path.{_≡_, refl, sym, ap, _∙_}
 use mathlib.Core.Bool.{Bool, true, false, not, _&&_}
 use lib.Dec.{ltb}
 use lib.IntN.{ℤ, pos, negsuc, negℤ, natAbs, _+ℤ_, _-ℤ_, _*ℤ_, negℤ-negℤ, +ℤ-comm}
 use lib.Signed.{ltZ}
 use borrow.Author.Tests.{lt-ltb, le-ltb}
-use Rattle.base.specs.Cases.{byLt}
 use Rattle.scale.specs.Nearest.{nearest}
 use Rattle.scale.specs.Scales.{side}
 use Rattle.scale.proofs.Nearest.{gap, IsNearest, nearest-is, nearest-only, none-nearer, tie-up}
@@ -52,6 +51,7 @@ near-side b c k p q odd =
   where
     close : 2 * gap (k * q) p ≤ q → IsNearest p q k
     close h = let e = mul-comm k q in record { over = omega arith; under = omega arith }
+
     far : (k : ℕ) → 2 * (k * q + p) ≤ q → side (not b) k ≡ side b (nearest p q)
     far zero h =
         side-none (not b) ∙ (sym (side-none b) ∙ ap (side b) (sym (nearest-only p q 0

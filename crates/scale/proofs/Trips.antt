@@ -8,8 +8,7 @@ use mathlib.Core.Path.{_≡_, refl, sym, ap, ap₂, _∙_}
 use mathlib.Core.Bool.{Bool, true, false, not, cond, _&&_, _||_}
 use mathlib.Core.List.{List, [], _∷_}
 use lib.Dec.{ltb, eqb}
-use lib.IntN.{ℤ, pos, natAbs, _+ℤ_, _-ℤ_}
-use lib.Signed.{ltZ}
+use lib.IntN.{ℤ, natAbs, _+ℤ_, _-ℤ_}
 use borrow.Author.Tests.{lt-ltb, eq-eqb, not-true}
 use Rattle.base.specs.Cases.{byBool, byLt, clash, unless}
 use Rattle.base.specs.Every.{allBelow, all-below}
@@ -27,8 +26,8 @@ use Rattle.scale.proofs.Nearest.{gap, nearest-none, nearest-back, there
 use Rattle.scale.proofs.Whole.{sided, from-origin, to-origin, side-below, natAbs-side}
 use Rattle.scale.proofs.Sides.{one-side, side-drop, natAbs-from}
 use Rattle.scale.proofs.Items.{number-fits, some-steps}
-use Rattle.scale.proofs.Numbers.{Coded, code-coded, house-inside}
-use Rattle.scale.proofs.Given.{Scaled, scaled-rule, HouseGiven, house-given, CodeGiven, code-given, every-code-converts, every-value-converts, code-is-number}
+use Rattle.scale.proofs.Numbers.{code-coded, house-inside}
+use Rattle.scale.proofs.Given.{Scaled, scaled-rule, house-given, code-given, every-code-converts, every-value-converts, code-is-number}
 use Rattle.scale.proofs.Codes.{below-some}
 
 module _ (i : Item) (r : Rule i) where

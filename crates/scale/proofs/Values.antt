@@ -13,11 +13,11 @@ use Rattle.catalogue.specs.declared.Found.the-variants.{Known}
 use Rattle.scale.specs.Nearest.{nearest}
 use Rattle.scale.specs.Scales.{origin, reach, steps, codeBelow, codeFar, side}
 use Rattle.scale.specs.Conversions.{houseOf, toHouse}
-use Rattle.scale.specs.Exact.{numberOf, miss}
+use Rattle.scale.specs.Exact.{miss}
 use Rattle.scale.specs.Rule.{Rule}
 use Rattle.scale.proofs.Whole.{sided, from-origin, to-origin}
 use Rattle.scale.proofs.Sides.{side-times, near-side, within-half}
-use Rattle.scale.proofs.Given.{HouseGiven, house-given, scaled-rule}
+use Rattle.scale.proofs.Given.{house-given, scaled-rule}
 
 -- what a value so far from the origin misses
 pub miss-is : (i : Item) (code : ℕ) (v : ℤ) (b : Bool) (k : ℕ) → v -ℤ origin i ≡ side b k → miss i code v ≡ natAbs (side b (k * steps i) -ℤ side (codeBelow i code) (codeFar i code * reach i))
@@ -36,6 +36,7 @@ nearest-value i r code = record { within = near; only = alone; no-tie = untied }
   where
     near : 2 * miss i code (houseOf i code) < steps i
     near = rw (miss-is i code (houseOf i code) (codeBelow i code) (nearest (codeFar i code * reach i) (steps i)) (to-origin (origin i) _)) (within-half (codeBelow i code) (codeFar i code * reach i) (steps i) (r .odd))
+
     alone : (w : ℤ) → 2 * miss i code w ≤ steps i → w ≡ houseOf i code
     alone w h =
         let e = sided (origin i) w in
@@ -43,6 +44,7 @@ nearest-value i r code = record { within = near; only = alone; no-tie = untied }
         ∙ ap (λ x. origin i +ℤ x)
         (e ∙ near-side (codeBelow i code) (ltZ w (origin i)) (natAbs (w -ℤ origin i)) (codeFar i code * reach i) (steps i) (r .odd)
         (rw (miss-is i code w (ltZ w (origin i)) (natAbs (w -ℤ origin i)) e) at h))
+
     untied : (w : ℤ) → 2 * miss i code w ≡ steps i → ⊥
     untied w h = omega (arith, near, ap (miss i code) (alone w (omega arith)))
 

@@ -1,7 +1,7 @@
 -- The rule that every scaled item of the table keeps, tested once over the whole table (proofs/Rule.antt), and an item's scale as the code has it.
 use Prim.Native.Nat.{ℕ, _+_, _-_, _*_, _/_, _%_, _^_, _<_, _≤_}
 use mathlib.Core.Path.{_≡_}
-use mathlib.Core.Bool.{Bool, true, false, cond}
+use mathlib.Core.Bool.{true, false, cond}
 use lib.IntN.{ℤ, pos, natAbs, _-ℤ_}
 use lib.Signed.{mag, ltZ}
 use Rattle.catalogue.specs.Shapes.{isMarked}

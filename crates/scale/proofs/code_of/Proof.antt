@@ -2,7 +2,7 @@
 -- Assumes nothing.
 use borrow.Author.Needs.{needs}
 use native.Mathlib.Omega.{arith}
-use Prim.Native.Nat.{_-_, _*_, _/_, _^_, _<_, _≤_}
+use Prim.Native.Nat.{_*_, _/_, _^_, _<_, _≤_}
 use mathlib.Core.Path.{_≡_, _∙_}
 use mathlib.Core.Bool.{true, false}
 use lib.Signed.{mag, ltZ}
@@ -17,11 +17,6 @@ use Rattle.scale.proofs.Whole.{ltZ-turn, natAbs-turn, inside-small}
 use Rattle.scale.proofs.Items.{neither-left, neither-right, origin-small, far-above, far-below, above-product, below-product, below-codes, under-half, codes-reduced, some-reach-reduced, code-below, code-none, code-above}
 use Rattle.scale.proofs.code_of.Statement.{statement}
 use Rattle.scale.proofs.code_of.Tie as tie
-use Rattle.scale.proofs.code_of.Reads as reads
-use Rattle.scale.proofs.code_of.Lts as lts
-use Rattle.scale.proofs.apart.Reads as apart-reads
-use Rattle.scale.proofs.rounded.Reads as rounded-reads
-use Rattle.scale.proofs.scale_of.Reads as scale-of-reads
 
 scale-of-requires : tie.Need-scale-of-requires
 scale-of-requires c κs = search needs

@@ -2,13 +2,12 @@
 -- Assumes nothing.
 use borrow.Author.Needs.{needs}
 use native.Mathlib.Omega.{arith}
-use Prim.Native.Nat.{_-_, _*_, _^_, _<_, _≤_}
-use mathlib.Core.Path.{_≡_, sym, _∙_}
+use Prim.Native.Nat.{_-_, _^_, _<_}
+use mathlib.Core.Path.{sym, _∙_}
 use lib.IntN.{pos}
 use mir.Syntax.{w64}
 use mir.Val.{SFits}
 use mir.Facts.{toZ-ofZ, toZ-pos}
-use Rattle.scale.specs.Nearest.{nearest}
 use Rattle.scale.specs.Scales.{codes, origin}
 use Rattle.scale.specs.Rule.{Scales}
 use Rattle.scale.specs.declared.Scale.{Scale}
@@ -16,11 +15,6 @@ use Rattle.scale.proofs.Whole.{sum-fits, difference-fits}
 use Rattle.scale.proofs.Items.{number-fits, house-product, some-steps-reduced, origin-small, below-same, house-below, house-above, units-fit}
 use Rattle.scale.proofs.house_of.Statement.{statement}
 use Rattle.scale.proofs.house_of.Tie as tie
-use Rattle.scale.proofs.house_of.Reads as reads
-use Rattle.scale.proofs.house_of.Lts as lts
-use Rattle.scale.proofs.is_below.Reads as is-below-reads
-use Rattle.scale.proofs.rounded.Reads as rounded-reads
-use Rattle.scale.proofs.scale_of.Reads as scale-of-reads
 
 scale-of-requires : tie.Need-scale-of-requires
 scale-of-requires c κs = search needs

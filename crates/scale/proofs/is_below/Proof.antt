@@ -3,11 +3,10 @@
 use borrow.Author.Needs.{needs}
 use Rattle.scale.proofs.is_below.Statement.{statement}
 use Rattle.scale.proofs.is_below.Tie as tie
-use Rattle.scale.proofs.is_below.Reads as reads
-use Rattle.scale.proofs.is_below.Lts as lts
 
 returns : tie.Need-returns
 returns c = rw (c .before .if1 .taken)
+
 returns-2 : tie.Need-returns-2
 returns-2 c = search needs
 

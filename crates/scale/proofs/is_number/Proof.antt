@@ -9,9 +9,6 @@ use Rattle.scale.specs.Scales.{codes}
 use Rattle.scale.proofs.Items.{halved, codes-are, marked-number}
 use Rattle.scale.proofs.is_number.Statement.{statement}
 use Rattle.scale.proofs.is_number.Tie as tie
-use Rattle.scale.proofs.is_number.Reads as reads
-use Rattle.scale.proofs.is_number.Lts as lts
-use Rattle.scale.proofs.codes_of.Reads as codes-of-reads
 
 codes-of-requires : tie.Need-codes-of-requires
 codes-of-requires c κs = search needs

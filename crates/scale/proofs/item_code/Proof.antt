@@ -12,10 +12,6 @@ use Rattle.scale.specs.Rule.{Rule}
 use Rattle.scale.proofs.Rule.{rule}
 use Rattle.scale.proofs.item_code.Statement.{statement}
 use Rattle.scale.proofs.item_code.Tie as tie
-use Rattle.scale.proofs.item_code.Reads as reads
-use Rattle.scale.proofs.item_code.Lts as lts
-use Rattle.scale.proofs.code_of.Reads as code-of-reads
-use Rattle.scale.proofs.refuse.Reads as refuse-reads
 
 is-scaled : (c : tie.Then1) → scaled (c .before .before .before .args .item) ≡ true
 is-scaled c =

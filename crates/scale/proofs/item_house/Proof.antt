@@ -11,11 +11,6 @@ use Rattle.scale.specs.Rule.{Rule}
 use Rattle.scale.proofs.Rule.{rule}
 use Rattle.scale.proofs.item_house.Statement.{statement}
 use Rattle.scale.proofs.item_house.Tie as tie
-use Rattle.scale.proofs.item_house.Reads as reads
-use Rattle.scale.proofs.item_house.Lts as lts
-use Rattle.scale.proofs.house_of.Reads as house-of-reads
-use Rattle.scale.proofs.is_number.Reads as is-number-reads
-use Rattle.scale.proofs.refuse.Reads as refuse-reads
 
 is-scaled : (c : tie.Then1) → scaled (c .before .before .before .args .item) ≡ true
 is-scaled c =

@@ -17,11 +17,6 @@ use Rattle.scale.specs.Scales.{signed, codes}
 use Rattle.scale.proofs.Items.{codes-are, steps-unsigned, steps-signed, origin-unsigned, origin-signed, counted-scales, unsigned-scales}
 use Rattle.scale.proofs.scale_of.Statement.{statement}
 use Rattle.scale.proofs.scale_of.Tie as tie
-use Rattle.scale.proofs.scale_of.Reads as reads
-use Rattle.scale.proofs.scale_of.Lts as lts
-use Rattle.scale.proofs.apart.Reads as apart-reads
-use Rattle.scale.proofs.codes_of.Reads as codes-of-reads
-use Rattle.scale.proofs.two_sided.Reads as two-sided-reads
 
 codes-of-requires : tie.Need-codes-of-requires
 codes-of-requires c κs = search needs

@@ -10,11 +10,6 @@ use mir.Facts.{toZ-ofZ}
 use Rattle.scale.specs.Conversions.{codeBy, toCode}
 use Rattle.scale.proofs.to_code.Statement.{statement}
 use Rattle.scale.proofs.to_code.Tie as tie
-use Rattle.scale.proofs.to_code.Reads as reads
-use Rattle.scale.proofs.to_code.Lts as lts
-use Rattle.catalogue.proofs.item_of.Reads as item-of-reads
-use Rattle.scale.proofs.item_code.Reads as item-code-reads
-use Rattle.scale.proofs.refuse.Reads as refuse-reads
 
 item-of-requires : tie.Need-item-of-requires
 item-of-requires c κs = search needs

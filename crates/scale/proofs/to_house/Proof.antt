@@ -7,11 +7,6 @@ use Rattle.catalogue.specs.declared.Found.the-variants.{Known}
 use Rattle.scale.specs.Conversions.{houseBy, toHouse}
 use Rattle.scale.proofs.to_house.Statement.{statement}
 use Rattle.scale.proofs.to_house.Tie as tie
-use Rattle.scale.proofs.to_house.Reads as reads
-use Rattle.scale.proofs.to_house.Lts as lts
-use Rattle.catalogue.proofs.item_of.Reads as item-of-reads
-use Rattle.scale.proofs.item_house.Reads as item-house-reads
-use Rattle.scale.proofs.refuse.Reads as refuse-reads
 
 item-of-requires : tie.Need-item-of-requires
 item-of-requires c κs = search needs

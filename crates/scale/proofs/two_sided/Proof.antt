@@ -7,13 +7,12 @@ use mir.Facts.{toZ-ofZ}
 use Rattle.scale.proofs.Whole.{natural}
 use Rattle.scale.proofs.two_sided.Statement.{statement}
 use Rattle.scale.proofs.two_sided.Tie as tie
-use Rattle.scale.proofs.two_sided.Reads as reads
-use Rattle.scale.proofs.two_sided.Lts as lts
 
 cast-t3 : tie.Need-cast-t3
 cast-t3 c =
     let fits : SFits w64 (c .args .high) = search needs in
     rw (toZ-ofZ fits) (natural _ fits (c .pre .1))
+
 sub-t5 : tie.Need-sub-t5
 sub-t5 c = search needs
 
