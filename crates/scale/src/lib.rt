@@ -6,6 +6,7 @@ ghost use lib.Dec.{leb};
 ghost use lib.IntN.{ℤ, natAbs, _-ℤ_, _+ℤ_, pos};
 ghost use lib.Signed.{mag, ltZ};
 ghost use Rattle.catalogue.specs.Items.{itemOf};
+ghost use Rattle.catalogue.specs.Shapes.{isMarked};
 ghost use Rattle.catalogue.specs.declared.Found.the-variants.{Known};
 ghost use Rattle.scale.specs.Nearest.{nearest};
 ghost use Rattle.scale.specs.Scales.{isNumber, isOutside, side};
@@ -110,6 +111,16 @@ fn codes_of(width: usize) -> u64
     1 << (8 * width)
 }
 
+fn has_mark(sign: Sign) -> bool
+    ensures { λ r. ⌜ r ≡ isMarked sign ⌝ }
+{
+    match sign {
+        Sign::Marked => true,
+        Sign::Signed => false,
+        Sign::Unsigned => false,
+    }
+}
+
 // Whether a code stands for a number: it fits and is no mark.
 fn is_number(item: Item, code: u64) -> bool
     requires { ⌜ Rule item ⌝ }
@@ -120,11 +131,10 @@ fn is_number(item: Item, code: u64) -> bool
         return false;
     }
     let sign = item.sign;
-    match sign {
-        Sign::Marked => code != codes / 2,
-        Sign::Signed => true,
-        Sign::Unsigned => true,
+    if has_mark(sign) {
+        return code != codes / 2;
     }
+    true
 }
 
 // An item's scale: values are counted from the origin, and as many house units as reach are as many codes as steps,
