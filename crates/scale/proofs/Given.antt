@@ -109,3 +109,9 @@ code-given t v i code e h =
 
     not-given : {n p q : ℕ} {C : Type 0} → refused n p q ≡ given code → C
     not-given p = let z : _≡_ {A = ℕ} 0 1 = cc in absurd (omega arith)
+
+-- what a conversion to a code answers is never a mark, and fits
+pub answer-is-number : (t : ℕ) (v : ℤ) (i : Item) (code : ℕ) → itemOf t ≡ Known i → toCode t v ≡ given code → isNumber i code ≡ true
+answer-is-number t v i code e h =
+    let g = code-given t v i code e h in
+    rw (g .value) (code-is-number (g .scale) v (g .inside))

@@ -174,6 +174,9 @@ module _ (i : Item) (r : Rule i) where
   pub marked-number : (code : ℕ) → code < codes i → isMarked (i .sign) ≡ true → not (eqb code (half i)) ≡ isNumber i code
   marked-number code h e = rw (lt-ltb code (codes i) h, e)
 
+  pub unmarked-number : (code : ℕ) → code < codes i → isMarked (i .sign) ≡ false → true ≡ isNumber i code
+  unmarked-number code h e = rw (lt-ltb code (codes i) h, e)
+
   module _ (v : ℤ) where
     pub code-below : ltZ v (origin i) ≡ true → 0 < nearest (valueFar i v * steps i) (reach i) → codes i - nearest (valueFar i v * steps i) (reach i) ≡ codeOf i v
     unfolding codeOf

@@ -3,9 +3,9 @@
 use borrow.Author.Needs.{needs}
 use native.Mathlib.Omega.{arith}
 use mathlib.Core.Path.{sym, _∙_}
-use borrow.Author.Tests.{lt-ltb, le-ltb}
+use borrow.Author.Tests.{le-ltb}
 use Rattle.scale.specs.Scales.{codes}
-use Rattle.scale.proofs.Items.{halved, codes-are, marked-number}
+use Rattle.scale.proofs.Items.{halved, codes-are, marked-number, unmarked-number}
 use Rattle.scale.proofs.is_number.Statement.{statement}
 use Rattle.scale.proofs.is_number.Tie as tie
 
@@ -32,7 +32,7 @@ returns-3 : tie.Need-returns-3
 returns-3 c =
     let a = c .before .before .before .before in
     let e = c .before .before .before .codes-of .ensures ∙ codes-are (a .args .item) (a .pre) in
-    rw (lt-ltb (a .args .code) (codes (a .args .item)) (omega arith), ← c .before .has-mark .ensures, c .if2 .left)
+    unmarked-number (a .args .item) (a .pre) (a .args .code) (omega arith) (sym (c .before .has-mark .ensures) ∙ c .if2 .left)
 
 pub is-number-spec : {M : Type 1} → statement M
 is-number-spec =
