@@ -1,13 +1,13 @@
 -- `scale::to_code` meets its contract.
 -- Assumes nothing.
 use borrow.Author.Needs.{needs}
-use mathlib.Core.Path.{_≡_, sym, ap, _∙_}
+use mathlib.Core.Path.{_≡_, sym, _∙_}
 use Rattle.catalogue.specs.Items.{itemOf}
 use Rattle.catalogue.specs.declared.Found.the-variants.{Known}
 use mir.Syntax.{w64}
 use mir.Val.{SFits}
 use mir.Facts.{toZ-ofZ}
-use Rattle.scale.specs.Conversions.{codeBy, toCode}
+use Rattle.scale.specs.Conversions.{toCode}
 use Rattle.scale.proofs.to_code.Statement.{statement}
 use Rattle.scale.proofs.to_code.Tie as tie
 
@@ -32,9 +32,8 @@ refuse-requires c κs = search needs
 returns : tie.Need-returns
 unfolding toCode
 returns c =
-    let a = c .before .before .before .before .before in
-    let value : SFits w64 (a .args .value) = search needs in
-    (rw (toZ-ofZ value) at (c .item-code .ensures)) ∙ sym (ap (codeBy (a .args .tag) (a .args .value)) (found (c .before)))
+    let value : SFits w64 (c .before .before .before .before .before .args .value) = search needs in
+    rw (found (c .before)) (rw (toZ-ofZ value) at (c .item-code .ensures))
 
 returns-2 : tie.Need-returns-2
 unfolding toCode

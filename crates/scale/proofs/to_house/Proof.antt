@@ -1,10 +1,10 @@
 -- `scale::to_house` meets its contract.
 -- Assumes nothing.
 use borrow.Author.Needs.{needs}
-use mathlib.Core.Path.{_≡_, sym, ap, _∙_}
+use mathlib.Core.Path.{_≡_, sym, _∙_}
 use Rattle.catalogue.specs.Items.{itemOf}
 use Rattle.catalogue.specs.declared.Found.the-variants.{Known}
-use Rattle.scale.specs.Conversions.{houseBy, toHouse}
+use Rattle.scale.specs.Conversions.{toHouse}
 use Rattle.scale.proofs.to_house.Statement.{statement}
 use Rattle.scale.proofs.to_house.Tie as tie
 
@@ -28,9 +28,7 @@ refuse-requires c κs = search needs
 
 returns : tie.Need-returns
 unfolding toHouse
-returns c =
-    let a = c .before .before .before .before .before in
-    c .item-house .ensures ∙ sym (ap (houseBy (a .args .tag) (a .args .code)) (found (c .before)))
+returns c = rw (found (c .before)) (c .item-house .ensures)
 
 returns-2 : tie.Need-returns-2
 unfolding toHouse
