@@ -24,15 +24,14 @@ tests : Item → List Bool
 tests i =
     ltb (i .width) 5
     ∷ eqb (half i + half i) (codes i)
-    ∷ leb (codes i) (2 ^ 32)
     ∷ eqb (steps i % 2) 1
     ∷ ltb 0 (reach i)
-    ∷ eqb (shared i * (reach i / shared i)) (reach i)
-    ∷ eqb (shared i * (steps i / shared i)) (steps i)
     ∷ ltb (mag (i .low)) (2 ^ 62)
     ∷ ltb (mag (i .high)) (2 ^ 62)
     ∷ not (ltZ (origin i) (i .low))
     ∷ not (ltZ (i .high) (origin i))
+    ∷ eqb (shared i * (reach i / shared i)) (reach i)
+    ∷ eqb (shared i * (steps i / shared i)) (steps i)
     ∷ ltb (nearest (codes i * reach i) (steps i)) (2 ^ 62)
     ∷ ltb (codes i * (reach i / shared i)) (2 ^ 63)
     ∷ ltb (depth i * (steps i / shared i)) (2 ^ 63)
@@ -55,25 +54,24 @@ all-ruled = refl
 keeps : (i : Item) → all passes (tests i) ≡ true → Rule i
 unfolding tests passes
 keeps i e =
-    let held : (k : ℕ) → k < 17 → getD (tests i) k true ≡ true = all-at passes (tests i) true e in
+    let held : (k : ℕ) → k < 16 → getD (tests i) k true ≡ true = all-at passes (tests i) true e in
     record {
       narrow = ltb-true _ _ (held 0 (omega arith));
       halves = eqb-true _ _ (held 1 (omega arith));
-      few = leb-true _ _ (held 2 (omega arith));
-      odd = eqb-true _ _ (held 3 (omega arith));
-      some = ltb-true _ _ (held 4 (omega arith));
-      reach-shared = eqb-true _ _ (held 5 (omega arith));
-      steps-shared = eqb-true _ _ (held 6 (omega arith));
-      low-small = ltb-true _ _ (held 7 (omega arith));
-      high-small = ltb-true _ _ (held 8 (omega arith));
-      low-below = not-true _ (held 9 (omega arith));
-      high-above = not-true _ (held 10 (omega arith));
-      units-small = ltb-true _ _ (held 11 (omega arith));
-      house-small = ltb-true _ _ (held 12 (omega arith));
-      deep-small = ltb-true _ _ (held 13 (omega arith));
-      high-fits = ltb-true _ _ (held 14 (omega arith));
-      lowest-under = leb-true _ _ (held 15 (omega arith));
-      under-inside = leb-true _ _ (held 16 (omega arith));
+      odd = eqb-true _ _ (held 2 (omega arith));
+      some = ltb-true _ _ (held 3 (omega arith));
+      low-small = ltb-true _ _ (held 4 (omega arith));
+      high-small = ltb-true _ _ (held 5 (omega arith));
+      low-below = not-true _ (held 6 (omega arith));
+      high-above = not-true _ (held 7 (omega arith));
+      reach-shared = eqb-true _ _ (held 8 (omega arith));
+      steps-shared = eqb-true _ _ (held 9 (omega arith));
+      units-small = ltb-true _ _ (held 10 (omega arith));
+      house-small = ltb-true _ _ (held 11 (omega arith));
+      deep-small = ltb-true _ _ (held 12 (omega arith));
+      high-fits = ltb-true _ _ (held 13 (omega arith));
+      lowest-under = leb-true _ _ (held 14 (omega arith));
+      under-inside = leb-true _ _ (held 15 (omega arith));
     }
 
 pub rule : (t : ℕ) (i : Item) → itemOf t ≡ Known i → scaled i ≡ true → Rule i

@@ -26,21 +26,24 @@ abbrev pub under : Item → ℕ
 under i = cond (signed i) (cond (isMarked (i .sign)) (steps i) (half i)) 0
 
 pub record Rule (i : Item) : Type 0 where
+  -- the codes
   pub narrow : i .width < 5
   pub halves : half i + half i ≡ codes i
-  pub few : codes i ≤ 2 ^ 32
   pub odd : steps i % 2 ≡ 1
+  -- the range, with the origin in it
   pub some : 0 < reach i
-  pub reach-shared : shared i * (reach i / shared i) ≡ reach i
-  pub steps-shared : shared i * (steps i / shared i) ≡ steps i
   pub low-small : mag (i .low) < 2 ^ 62
   pub high-small : mag (i .high) < 2 ^ 62
   pub low-below : ltZ (origin i) (i .low) ≡ false
   pub high-above : ltZ (i .high) (origin i) ≡ false
+  -- what is shared, and that the code's products fit
+  pub reach-shared : shared i * (reach i / shared i) ≡ reach i
+  pub steps-shared : shared i * (steps i / shared i) ≡ steps i
   pub units-small : nearest (codes i * reach i) (steps i) < 2 ^ 62
   pub house-small : codes i * (reach i / shared i) < 2 ^ 63
   pub deep-small : depth i * (steps i / shared i) < 2 ^ 63
   pub high-fits : reach i * (steps i / shared i) < 2 ^ 63
+  -- below the origin, values get codes that are no marks, and codes get values inside the range
   pub lowest-under : lowest i ≤ under i
   pub under-inside : nearest (under i * reach i) (steps i) ≤ depth i
 
