@@ -97,6 +97,7 @@ fn examples_to_14() {
     example(14, 0x5B5360C4, 8);
 }
 
+// Item 15 has no example: its row is lost in the standard's text.
 fn examples_from_16() {
     // L1214
     example(16, 0xCD9C, 4);
