@@ -9,6 +9,8 @@ use lib.Dec.{ltb, leb, eqb}
 use lib.IntN.{ℤ, pos, natAbs, _+ℤ_, _-ℤ_, +ℤ-idr}
 use borrow.Author.Tests.{ltb-true, lt-ltb, le-ltb}
 use lib.Signed.{mag, ltZ}
+use mir.Syntax.{w64}
+use mir.Val.{SFits}
 use Rattle.base.specs.Cases.{byBool, clash}
 use Rattle.base.specs.Every.{both-left}
 use Rattle.catalogue.specs.Shapes.{isMarked}
@@ -72,6 +74,9 @@ module _ (i : Item) (r : Rule i) where
   pub origin-small : mag (origin i) < 2 ^ 62
   unfolding origin
   origin-small = byBool (signed i) (λ e. rw e (omega arith)) (λ e. rw e (r .low-small))
+
+  pub origin-fits : {s : Scale} → Scales i s → SFits w64 (s .origin)
+  origin-fits k = rw (k .from) (record { sfits = omega (arith, origin-small) })
 
   -- to codes
   pub far-above : (v : ℤ) → ltZ v (origin i) ≡ false → ltZ (i .high) v ≡ false → valueFar i v ≤ reach i

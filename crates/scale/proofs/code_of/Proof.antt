@@ -11,17 +11,16 @@ use mir.Val.{SFits}
 use mir.Facts.{toZ-ofZ}
 use Rattle.scale.specs.Nearest.{nearest}
 use Rattle.scale.specs.Scales.{origin, reach, steps, valueFar}
-use Rattle.scale.specs.Rule.{Scales, shared, depth}
-use Rattle.scale.specs.declared.Scale.{Scale}
+use Rattle.scale.specs.Rule.{shared, depth}
 use Rattle.scale.proofs.Whole.{ltZ-turn, natAbs-turn, inside-small}
-use Rattle.scale.proofs.Items.{neither-left, neither-right, origin-small, far-above, far-below, above-product, below-product, below-codes, under-half, codes-reduced, some-reach-reduced, code-below, code-none, code-above}
+use Rattle.scale.proofs.Items.{neither-left, neither-right, origin-small, origin-fits, far-above, far-below, above-product, below-product, below-codes, under-half, codes-reduced, some-reach-reduced, code-below, code-none, code-above}
 use Rattle.scale.proofs.code_of.Statement.{statement}
 use Rattle.scale.proofs.code_of.Tie as tie
 
 scale-of-requires : tie.Need-scale-of-requires
 scale-of-requires c κs = search needs
 
--- the value and the scale's origin as 64 bits
+-- the value is within 64 bits
 value-fits : (a : tie.Start) → SFits w64 (a .args .value)
 value-fits a = search needs
 
@@ -32,20 +31,17 @@ value-small a =
     inside-small (i .low) (i .high) (a .args .value) (r .low-small) (r .high-small)
     (neither-left (ltZ (a .args .value) (i .low)) _ (a .pre .1)) (neither-right (ltZ (a .args .value) (i .low)) _ (a .pre .1))
 
-origin-fits : (a : tie.Start) {s : Scale} → Scales (a .args .item) s → SFits w64 (s .origin)
-origin-fits a k = rw (k .from) (record { sfits = omega (arith, origin-small (a .args .item) (a .pre .0)) })
-
 -- a value below the origin
 is-below : (c : tie.Then1) → ltZ (c .before .before .before .args .value) (origin (c .before .before .before .args .item)) ≡ true
 is-below c =
     let b = c .before .before in
-    rw (toZ-ofZ (value-fits (b .before)), toZ-ofZ (origin-fits (b .before) (b .scale-of .ensures)), b .scale-of .ensures .from) at (c .if1 .taken)
+    rw (toZ-ofZ (value-fits (b .before)), toZ-ofZ (origin-fits (b .before .args .item) (b .before .pre .0) (b .scale-of .ensures)), b .scale-of .ensures .from) at (c .if1 .taken)
 
 far-down : (c : tie.After-apart) → c .apart .result ≡ valueFar (c .before .before .before .before .args .item) (c .before .before .before .before .args .value)
 far-down c =
     let b = c .before .before .before in
     let a = b .before in
-    (rw (toZ-ofZ (value-fits a), toZ-ofZ (origin-fits a (b .scale-of .ensures)), b .scale-of .ensures .from) at (c .apart .ensures))
+    (rw (toZ-ofZ (value-fits a), toZ-ofZ (origin-fits (a .args .item) (a .pre .0) (b .scale-of .ensures)), b .scale-of .ensures .from) at (c .apart .ensures))
     ∙ natAbs-turn (origin (a .args .item)) (a .args .value)
 
 depth-down : (c : tie.After-apart) → valueFar (c .before .before .before .before .args .item) (c .before .before .before .before .args .value) ≤ depth (c .before .before .before .before .args .item)
@@ -69,12 +65,12 @@ code-down c =
 is-above : (c : tie.Else1) → ltZ (c .before .before .before .args .value) (origin (c .before .before .before .args .item)) ≡ false
 is-above c =
     let b = c .before .before in
-    rw (toZ-ofZ (value-fits (b .before)), toZ-ofZ (origin-fits (b .before) (b .scale-of .ensures)), b .scale-of .ensures .from) at (c .if1 .left)
+    rw (toZ-ofZ (value-fits (b .before)), toZ-ofZ (origin-fits (b .before .args .item) (b .before .pre .0) (b .scale-of .ensures)), b .scale-of .ensures .from) at (c .if1 .left)
 
 far-up : (c : tie.After-apart2) → c .apart2 .result ≡ valueFar (c .before .before .before .before .args .item) (c .before .before .before .before .args .value)
 far-up c =
     let b = c .before .before .before in
-    rw (toZ-ofZ (value-fits (b .before)), toZ-ofZ (origin-fits (b .before) (b .scale-of .ensures)), b .scale-of .ensures .from) at (c .apart2 .ensures)
+    rw (toZ-ofZ (value-fits (b .before)), toZ-ofZ (origin-fits (b .before .args .item) (b .before .pre .0) (b .scale-of .ensures)), b .scale-of .ensures .from) at (c .apart2 .ensures)
 
 product-up : (c : tie.After-apart2) → valueFar (c .before .before .before .before .args .item) (c .before .before .before .before .args .value) * (steps (c .before .before .before .before .args .item) / shared (c .before .before .before .before .args .item)) < 2 ^ 63
 product-up c =
@@ -86,7 +82,7 @@ apart-requires : tie.Need-apart-requires
 apart-requires c κs =
     let b = c .before .before in
     let a = b .before in
-    rw (toZ-ofZ (value-fits a), toZ-ofZ (origin-fits a (b .scale-of .ensures)), b .scale-of .ensures .from)
+    rw (toZ-ofZ (value-fits a), toZ-ofZ (origin-fits (a .args .item) (a .pre .0) (b .scale-of .ensures)), b .scale-of .ensures .from)
     (ltZ-turn (a .args .value) (origin (a .args .item)) (is-below c), value-small a, origin-small (a .args .item) (a .pre .0))
 
 mul-rounded : tie.Need-mul-rounded
@@ -132,7 +128,7 @@ apart-requires-2 : tie.Need-apart-requires-2
 apart-requires-2 c κs =
     let b = c .before .before in
     let a = b .before in
-    rw (toZ-ofZ (value-fits a), toZ-ofZ (origin-fits a (b .scale-of .ensures)), b .scale-of .ensures .from)
+    rw (toZ-ofZ (value-fits a), toZ-ofZ (origin-fits (a .args .item) (a .pre .0) (b .scale-of .ensures)), b .scale-of .ensures .from)
     (is-above c, origin-small (a .args .item) (a .pre .0), value-small a)
 
 mul-rounded-2 : tie.Need-mul-rounded-2

@@ -6,13 +6,10 @@ use Prim.Native.Nat.{_-_, _^_, _<_}
 use mathlib.Core.Path.{sym, _∙_}
 use lib.IntN.{pos}
 use mir.Syntax.{w64}
-use mir.Val.{SFits}
 use mir.Facts.{toZ-ofZ, toZ-pos}
 use Rattle.scale.specs.Scales.{codes, origin}
-use Rattle.scale.specs.Rule.{Scales}
-use Rattle.scale.specs.declared.Scale.{Scale}
 use Rattle.scale.proofs.Whole.{sum-fits, difference-fits}
-use Rattle.scale.proofs.Items.{number-fits, house-product, some-steps-reduced, origin-small, below-same, house-below, house-above, units-fit}
+use Rattle.scale.proofs.Items.{number-fits, house-product, some-steps-reduced, origin-small, origin-fits, below-same, house-below, house-above, units-fit}
 use Rattle.scale.proofs.house_of.Statement.{statement}
 use Rattle.scale.proofs.house_of.Tie as tie
 
@@ -39,10 +36,7 @@ rounded-requires c κs =
     let k = c .before .before .before .before .scale-of .ensures in
     rw (k .all-codes, k .units, k .count) (some-steps-reduced (a .args .item) (a .pre .0), house-product (a .args .item) (a .pre .0) (codes (a .args .item) - a .args .code) (omega arith))
 
--- the scale's origin as 64 bits, and that the units found are few
-origin-fits : (a : tie.Start) {s : Scale} → Scales (a .args .item) s → SFits w64 (s .origin)
-origin-fits a k = rw (k .from) (record { sfits = omega (arith, origin-small (a .args .item) (a .pre .0)) })
-
+-- the units found are few
 below-few : (c : tie.After-rounded) → c .rounded .result < 2 ^ 62
 below-few c =
     let b = c .before .before .before .before .before in
@@ -67,7 +61,7 @@ sub-result c =
     let a = c .before .before .before .before .before .before .before .before in
     let k = c .before .before .before .before .before .before .before .scale-of .ensures in
     let few = below-few (c .before .before) in
-    rw (toZ-ofZ (origin-fits a k), k .from, toZ-pos w64 {n = c .before .before .rounded .result} (omega arith))
+    rw (toZ-ofZ (origin-fits (a .args .item) (a .pre .0) k), k .from, toZ-pos w64 {n = c .before .before .rounded .result} (omega arith))
     (difference-fits (origin (a .args .item)) (pos (c .before .before .rounded .result)) (origin-small (a .args .item) (a .pre .0)) few)
 
 returns : tie.Need-returns
@@ -79,7 +73,7 @@ returns c =
     let below = sym (below-same (a .args .item) (a .pre .0) (b .scale-of .result) k (a .args .code))
     ∙ (sym (c .before .before .before .before .before .before .is-below .ensures) ∙ c .before .before .before .before .before .if1 .taken) in
     rw (
-      toZ-ofZ (origin-fits a k),
+      toZ-ofZ (origin-fits (a .args .item) (a .pre .0) k),
       k .from,
       toZ-pos w64 {n = c .before .before .rounded .result} (omega arith),
       toZ-ofZ (difference-fits (origin (a .args .item)) (pos (c .before .before .rounded .result)) (origin-small (a .args .item) (a .pre .0)) few),
@@ -107,7 +101,7 @@ add-result c =
     let a = c .before .before .before .before .before .before .before in
     let k = c .before .before .before .before .before .before .scale-of .ensures in
     let few = above-few (c .before .before) in
-    rw (toZ-ofZ (origin-fits a k), k .from, toZ-pos w64 {n = c .before .before .rounded2 .result} (omega arith))
+    rw (toZ-ofZ (origin-fits (a .args .item) (a .pre .0) k), k .from, toZ-pos w64 {n = c .before .before .rounded2 .result} (omega arith))
     (sum-fits (origin (a .args .item)) (c .before .before .rounded2 .result) (origin-small (a .args .item) (a .pre .0)) few)
 
 returns-2 : tie.Need-returns-2
@@ -119,7 +113,7 @@ returns-2 c =
     let above = sym (below-same (a .args .item) (a .pre .0) (b .scale-of .result) k (a .args .code))
     ∙ (sym (c .before .before .before .before .before .is-below .ensures) ∙ c .before .before .before .before .if1 .left) in
     rw (
-      toZ-ofZ (origin-fits a k),
+      toZ-ofZ (origin-fits (a .args .item) (a .pre .0) k),
       k .from,
       toZ-pos w64 {n = c .before .before .rounded2 .result} (omega arith),
       toZ-ofZ (sum-fits (origin (a .args .item)) (c .before .before .rounded2 .result) (origin-small (a .args .item) (a .pre .0)) few),
