@@ -2,7 +2,10 @@
 -- Assumes nothing.
 use borrow.Author.Needs.{needs}
 use native.Mathlib.Omega.{arith}
-use mathlib.Core.Path.{sym, _∙_}
+use Prim.Native.Nat.{_/_}
+use mathlib.Core.Path.{sym, ap, _∙_}
+use mathlib.Core.Bool.{not}
+use lib.Dec.{eqb}
 use borrow.Author.Tests.{le-ltb}
 use Rattle.scale.specs.Scales.{codes}
 use Rattle.scale.proofs.Items.{halved, codes-are, marked-number, unmarked-number}
@@ -25,8 +28,8 @@ returns-2 : tie.Need-returns-2
 returns-2 c =
     let a = c .before .before .before .before in
     let e = c .before .before .before .codes-of .ensures ∙ codes-are (a .args .item) (a .pre) in
-    rw (e, halved (a .args .item) (a .pre))
-    (marked-number (a .args .item) (a .pre) (a .args .code) (omega arith) (sym (c .before .has-mark .ensures) ∙ c .if2 .taken))
+    ap (λ h. not (eqb (a .args .code) h)) (ap (λ x. x / 2) e ∙ halved (a .args .item) (a .pre))
+    ∙ marked-number (a .args .item) (a .pre) (a .args .code) (omega arith) (sym (c .before .has-mark .ensures) ∙ c .if2 .taken)
 
 returns-3 : tie.Need-returns-3
 returns-3 c =
