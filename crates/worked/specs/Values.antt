@@ -3,7 +3,11 @@ use Prim.Native.Nat.{ℕ}
 use mathlib.Core.Bool.{Bool, true, false, _&&_}
 use mathlib.Core.List.{List, [], _∷_}
 use lib.Dec.{eqb}
+use lib.IntN.{ℤ, pos, negℤ}
+use Rattle.refusal.specs.Answer.{Answer, given, refused}
 use Rattle.ber.specs.Read.{Read, got, broken, readLength}
+use Rattle.catalogue.proofs.Same.{sameWhole}
+use Rattle.scale.specs.Conversions.{toHouse, toCode}
 
 abbrev pub sameRead : Read → Read → Bool
 sameRead (got v s) (got w t) = eqb v w && eqb s t
@@ -11,12 +15,23 @@ sameRead (got v s) broken = false
 sameRead broken (got w t) = false
 sameRead broken broken = true
 
+abbrev pub sameAnswer : {A : Type 0} → (A → A → Bool) → Answer A → Answer A → Bool
+sameAnswer same (given a) (given b) = same a b
+sameAnswer same (given a) (refused n p t) = false
+sameAnswer same (refused m q u) (given b) = false
+sameAnswer same (refused m q u) (refused n p t) = eqb m n && (eqb q p && eqb u t)
+
 pub data Case : Type 0 where
   -- the bytes of a length, and what reading them finds
   lengthCase : List ℕ → Read → Case
+  -- a tag, a code and its value in house units; a tag, a value and its code
+  houseCase : ℕ → ℕ → Answer ℤ → Case
+  codeCase : ℕ → ℤ → Answer ℕ → Case
 
 abbrev pub right : Case → Bool
 right (lengthCase bytes found) = sameRead (readLength bytes) found
+right (houseCase tag code answer) = sameAnswer sameWhole (toHouse tag code) answer
+right (codeCase tag value answer) = sameAnswer eqb (toCode tag value) answer
 
 -- "Lengths: 7F and 81 7F are 127; 80 and 85 are refused": these two with bytes enough after them
 unfoldable pub values : List Case
@@ -25,4 +40,19 @@ values =
     ∷ lengthCase (0x81 ∷ 0x7F ∷ []) (got 127 2)
     ∷ lengthCase (0x80 ∷ 0x01 ∷ 0x01 ∷ []) broken
     ∷ lengthCase (0x85 ∷ 0x01 ∷ 0x01 ∷ 0x01 ∷ 0x01 ∷ 0x01 ∷ []) broken
+    -- conversions
+    ∷ houseCase 18 0x724A0A20 (given (pos 1607192114))
+    ∷ houseCase 19 0x87F84B86 (given (negℤ (pos 1687923248)))
+    ∷ houseCase 21 0x03830926 (given (pos 68590983))
+    ∷ houseCase 64 0xDDC5 (given (pos 3118681621))
+    ∷ houseCase 26 0x8001 (given (negℤ (pos 750000)))
+    ∷ houseCase 26 0x7FFF (given (pos 750000))
+    ∷ houseCase 26 0x0001 (given (pos 23))
+    ∷ houseCase 26 0x8000 (refused 20 0 26)
+    ∷ houseCase 39 0x80 (given (negℤ (pos 128000)))
+    ∷ houseCase 15 0x0000 (given (negℤ (pos 900000)))
+    ∷ houseCase 15 0xFFFF (given (pos 19000000))
+    -- a tie, and just below it
+    ∷ codeCase 36 (pos 10000) (given 26)
+    ∷ codeCase 36 (pos 9999) (given 25)
     ∷ []

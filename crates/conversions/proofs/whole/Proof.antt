@@ -1,0 +1,49 @@
+-- `conversions::whole` meets its contract.
+-- Assumes nothing.
+use borrow.Author.Needs.{needs}
+use mir.Syntax.{w64}
+use mir.Val.{SFits}
+use mir.Facts.{toZ-ofZ}
+use Rattle.scale.proofs.Whole.{natural}
+use Rattle.conversions.proofs.whole.Statement.{statement}
+use Rattle.conversions.proofs.whole.Tie as tie
+
+slice-aggregate-say : tie.Need-slice-aggregate-say
+slice-aggregate-say c = search needs
+
+say-requires : tie.Need-say-requires
+say-requires c κs = search needs
+
+below-zero-requires : tie.Need-below-zero-requires
+below-zero-requires c κs = search needs
+
+decimal-requires : tie.Need-decimal-requires
+decimal-requires c κs = search needs
+
+cast-decimal : tie.Need-cast-decimal
+cast-decimal c =
+    let v = c .before .args .v in
+    let fits : SFits w64 v = search needs in
+    rw (toZ-ofZ fits) (natural v fits (rw (toZ-ofZ fits) at (c .if1 .left)))
+
+decimal-requires-2 : tie.Need-decimal-requires-2
+decimal-requires-2 c κs = search needs
+
+returns : tie.Need-returns
+returns c = search needs
+
+returns-2 : tie.Need-returns-2
+returns-2 c = search needs
+
+pub whole-spec : {M : Type 1} → statement M
+whole-spec =
+    tie.close
+    (tie.spec
+    slice-aggregate-say
+    say-requires
+    below-zero-requires
+    decimal-requires
+    cast-decimal
+    decimal-requires-2
+    returns
+    returns-2)

@@ -1,0 +1,12 @@
+pub mod Nearest
+pub mod Whole
+pub mod Rule
+pub mod Items
+pub mod Sides
+pub mod Numbers
+pub mod Given
+pub mod Values
+pub mod Codes
+pub mod Trips
+pub mod Degrees
+pub mod Outcomes

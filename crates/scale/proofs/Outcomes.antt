@@ -1,0 +1,34 @@
+-- What an answer says tells any two answers apart, so each public function's contract determines its answer.
+-- Assumes nothing.
+use Prim.Native.Nat.{ℕ}
+use native.Mathlib.Omega.{arith}
+use mathlib.Core.Path.{_≡_, sym, ap, _∙_}
+use Rattle.base.specs.Determined.{Answered}
+use Rattle.refusal.proofs.Laws.{refusal-apart}
+use Rattle.scale.specs.Said.{houseSaid, codeSaid}
+use Rattle.scale.specs.declared.ToHouse.{ToHouse}
+use Rattle.scale.specs.declared.ToHouse.the-variants as house
+use Rattle.scale.specs.declared.ToCode.{ToCode}
+use Rattle.scale.specs.declared.ToCode.the-variants as code
+use Rattle.scale.proofs.to_house.Kinds as to-house-kinds
+use Rattle.scale.proofs.to_house.Reads as to-house-reads
+use Rattle.scale.proofs.to_code.Kinds as to-code-kinds
+use Rattle.scale.proofs.to_code.Reads as to-code-reads
+
+pub house-apart : (a b : ToHouse) → houseSaid a ≡ houseSaid b → a ≡ b
+house-apart (house.Is x) (house.Is y) e = let v : x .value ≡ y .value = cc in ap house.Is (λ i. record { value = v i })
+house-apart (house.Is x) (house.Refused y) e = let z : _≡_ {A = ℕ} 0 1 = cc in absurd (omega arith)
+house-apart (house.Refused x) (house.Is y) e = let z : _≡_ {A = ℕ} 0 1 = cc in absurd (omega arith)
+house-apart (house.Refused x) (house.Refused y) e = ap house.Refused (refusal-apart x y e)
+
+pub code-apart : (a b : ToCode) → codeSaid a ≡ codeSaid b → a ≡ b
+code-apart (code.Is x) (code.Is y) e = let v : x .code ≡ y .code = cc in ap code.Is (λ i. record { code = v i })
+code-apart (code.Is x) (code.Refused y) e = let z : _≡_ {A = ℕ} 0 1 = cc in absurd (omega arith)
+code-apart (code.Refused x) (code.Is y) e = let z : _≡_ {A = ℕ} 0 1 = cc in absurd (omega arith)
+code-apart (code.Refused x) (code.Refused y) e = ap code.Refused (refusal-apart x y e)
+
+pub to-house-determined : Answered 0 to-house-kinds.ps to-house-kinds.r to-house-reads.Post
+to-house-determined κs a z z′ e e′ p q = house-apart z z′ (p ∙ sym q)
+
+pub to-code-determined : Answered 0 to-code-kinds.ps to-code-kinds.r to-code-reads.Post
+to-code-determined κs a z z′ e e′ p q = code-apart z z′ (p ∙ sym q)

@@ -1,0 +1,149 @@
+-- There and back: value to code to value is within half a step and half a unit; where a step exceeds a house unit a code comes back,
+-- and where it is smaller a value does.
+-- Assumes nothing.
+use Prim.Native.Nat.{ℕ, zero, suc, _+_, _-_, _*_, _<_, _≤_}
+use native.Mathlib.Omega.{arith}
+use native.Mathlib.Nat.{zero-mul, mul-add, mul-sub}
+use mathlib.Core.Path.{_≡_, refl, sym, ap, ap₂, _∙_}
+use mathlib.Core.Bool.{Bool, true, false, not, cond, _&&_, _||_}
+use mathlib.Core.List.{List, [], _∷_}
+use lib.Dec.{ltb, eqb}
+use lib.IntN.{ℤ, natAbs, _+ℤ_, _-ℤ_}
+use borrow.Author.Tests.{lt-ltb, eq-eqb, not-true}
+use Rattle.base.specs.Cases.{byBool, byLt, clash, unless}
+use Rattle.base.specs.Every.{allBelow, all-below}
+use Rattle.refusal.specs.Answer.{given}
+use Rattle.catalogue.specs.Items.{groups, member, itemIn, itemOf}
+use Rattle.catalogue.specs.declared.Item.{Item}
+use Rattle.catalogue.specs.declared.Found.{Found}
+use Rattle.catalogue.specs.declared.Found.the-variants.{Known, Absent}
+use Rattle.catalogue.proofs.Laws.{item-beyond}
+use Rattle.scale.specs.Nearest.{nearest}
+use Rattle.scale.specs.Scales.{scaled, codes, half, origin, reach, steps, isNumber, isOutside, codeBelow, codeFar, valueBelow, valueFar, side}
+use Rattle.scale.specs.Conversions.{houseOf, toHouse, codeAt, codeOf, toCode}
+use Rattle.scale.specs.Rule.{Rule}
+use Rattle.scale.proofs.Nearest.{gap, nearest-none, nearest-back, there-and-back, Within}
+use Rattle.scale.proofs.Whole.{sided, from-origin, to-origin, side-below, natAbs-side}
+use Rattle.scale.proofs.Sides.{one-side, side-drop, natAbs-from}
+use Rattle.scale.proofs.Items.{number-fits, some-steps}
+use Rattle.scale.proofs.Numbers.{code-coded, house-inside}
+use Rattle.scale.proofs.Given.{Scaled, scaled-rule, house-given, code-given, every-code-converts, every-value-converts, code-is-number}
+use Rattle.scale.proofs.Codes.{below-some}
+
+module _ (i : Item) (r : Rule i) where
+  none-back : (m q : ℕ) (k : ℕ) → 0 < q → m ≡ 0 → nearest (m * k) q ≡ 0
+  none-back m q k some z = rw (z, zero-mul k) (nearest-none q some)
+
+  -- the value that the code of a value gives
+  house-back : (v : ℤ) → isOutside i v ≡ false → houseOf i (codeOf i v) ≡ origin i +ℤ side (valueBelow i v) (nearest (nearest (valueFar i v * steps i) (reach i) * reach i) (steps i))
+  unfolding houseOf
+  house-back v e =
+      let c = code-coded i r v e in
+      let m = nearest (valueFar i v * steps i) (reach i) in
+      ap (λ x. origin i +ℤ x)
+      (ap₂ (λ x y. side x (nearest (y * reach i) (steps i))) (c .side-of) (c .far-of)
+      ∙ side-drop (valueBelow i v) m (nearest (m * reach i) (steps i)) (none-back m (steps i) (reach i) (some-steps i r)))
+
+  back-gap : (v : ℤ) → isOutside i v ≡ false → natAbs (houseOf i (codeOf i v) -ℤ v) ≡ gap (nearest (nearest (valueFar i v * steps i) (reach i) * reach i) (steps i)) (valueFar i v)
+  back-gap v e =
+      natAbs-from (origin i) (houseOf i (codeOf i v)) v
+      ∙ (ap₂ (λ x y. natAbs (x -ℤ y)) (ap (λ x. x -ℤ origin i) (house-back v e) ∙ to-origin (origin i) _) (sided (origin i) v)
+      ∙ one-side (valueBelow i v) _ _)
+
+  within : (v : ℤ) → isOutside i v ≡ false → 2 * (steps i * natAbs (houseOf i (codeOf i v) -ℤ v)) ≤ reach i + steps i
+  within v e =
+      rw (back-gap v e) (spread (valueFar i v) (nearest (nearest (valueFar i v * steps i) (reach i) * reach i) (steps i)) (there-and-back (valueFar i v) (steps i) (reach i) (some-steps i r) (r .some)))
+    where
+      spread : (x y : ℕ) → Within x y (steps i) (reach i) → 2 * (steps i * gap y x) ≤ reach i + steps i
+      spread x y w =
+          let d = steps i in
+          rw (mul-add d (y - x) (x - y), mul-sub d y x, mul-sub d x y) (omega (arith, w .over, w .under))
+
+  value-back : (v : ℤ) → isOutside i v ≡ false → reach i < steps i → houseOf i (codeOf i v) ≡ v
+  value-back v e fine =
+      house-back v e
+      ∙ (ap (λ k. origin i +ℤ side (valueBelow i v) k) (nearest-back (valueFar i v) (reach i) (steps i) (r .some) fine)
+      ∙ (ap (λ x. origin i +ℤ x) (sym (sided (origin i) v)) ∙ from-origin (origin i) v))
+
+  -- the code that the value of a code gives
+  code-at-back : (code : ℕ) → isNumber i code ≡ true → (m : ℕ) → (codeBelow i code ≡ true → 0 < m) → codeAt i (codeBelow i code && ltb 0 m) (codeFar i code) ≡ code
+  code-at-back code n m some =
+      byBool (codeBelow i code)
+      (λ b. rw (b, lt-ltb 0 m (some b), lt-ltb 0 (codes i - code) (omega (arith, number-fits i r code n))) (omega (arith, number-fits i r code n)))
+      (λ b. rw b)
+
+  code-back : (code : ℕ) → isNumber i code ≡ true → steps i < reach i → codeOf i (houseOf i code) ≡ code
+  unfolding codeOf houseOf
+  code-back code n coarse =
+      let b = codeBelow i code in
+      let far = codeFar i code in
+      let m = nearest (far * reach i) (steps i) in
+      let back : nearest (m * steps i) (reach i) ≡ far = nearest-back far (steps i) (reach i) (some-steps i r) coarse in
+      let away : valueFar i (houseOf i code) ≡ m = ap natAbs (to-origin (origin i) (side b m)) ∙ natAbs-side b m in
+      ap₂ (λ x y. codeAt i x y) (side-below (origin i) b m) (ap (λ x. nearest (x * steps i) (reach i)) away ∙ back)
+      ∙ code-at-back code n m
+      (λ e. byLt 0 m (λ h. h)
+      (λ h. let z : m ≡ 0 = omega arith in absurd (omega (arith, below-some i r code n e, sym back ∙ none-back m (reach i) (steps i) (r .some) z))))
+
+pub there-and-back-within : (t : ℕ) (v w : ℤ) (i : Item) (code : ℕ) → itemOf t ≡ Known i → toCode t v ≡ given code → toHouse t code ≡ given w → 2 * (steps i * natAbs (w -ℤ v)) ≤ reach i + steps i
+there-and-back-within t v w i code e p q =
+    let g = code-given t v i code e p in
+    let h = house-given t code i w e q in
+    rw (h .value, g .value) (within i (scaled-rule (g .scale)) v (g .inside))
+
+-- a step is smaller than a house unit
+pub value-code-value : (t : ℕ) (v : ℤ) (i : Item) (code : ℕ) → itemOf t ≡ Known i → reach i < steps i → toCode t v ≡ given code → toHouse t code ≡ given v
+value-code-value t v i code e fine p =
+    let g = code-given t v i code e p in
+    rw (g .value) (every-code-converts (g .scale) (codeOf i v) (code-is-number (g .scale) v (g .inside)) ∙ ap given (value-back i (scaled-rule (g .scale)) v (g .inside) fine))
+
+-- a step exceeds a house unit
+pub code-value-code : (t code : ℕ) (i : Item) (v : ℤ) → itemOf t ≡ Known i → steps i < reach i → toHouse t code ≡ given v → toCode t v ≡ given code
+code-value-code t code i v e coarse p =
+    let g = house-given t code i v e p in
+    let r = scaled-rule (g .scale) in
+    rw (g .value) (every-value-converts (g .scale) (houseOf i code) (house-inside i r code (g .number)) ∙ ap given (code-back i r code (g .number) coarse))
+
+-- which items fall where
+pub isCoarse : Item → Bool
+isCoarse i = scaled i && ltb (steps i) (reach i)
+
+pub isFine : Item → Bool
+isFine i = scaled i && ltb (reach i) (steps i)
+
+pub onto : (Item → Bool) → Found → List ℕ → List ℕ
+onto f (Known i) ts = cond (f i) (i .tag ∷ ts) ts
+onto f Absent ts = ts
+
+pub tagsFrom : (Item → Bool) → ℕ → ℕ → List ℕ
+tagsFrom f zero t = []
+tagsFrom f (suc n) t = onto f (itemOf t) (tagsFrom f n (suc t))
+
+pub coarse-tags :
+    tagsFrom isCoarse 128 0
+    ≡ 5 ∷ 6 ∷ 7 ∷ 8 ∷ 9 ∷ 15 ∷ 16 ∷ 17 ∷ 21 ∷ 22 ∷ 25 ∷ 26 ∷ 27 ∷ 28 ∷ 29 ∷ 30 ∷ 31 ∷ 32 ∷ 33 ∷ 35 ∷ 36 ∷ 37 ∷ 38 ∷ 39 ∷ 55 ∷ 56 ∷ 57 ∷ 64
+    ∷ 71 ∷ 75 ∷ 78 ∷ 79 ∷ 80 ∷ []
+unfolding groups member itemIn itemOf onto tagsFrom isCoarse codes half origin reach steps
+coarse-tags = refl
+
+pub fine-tags :
+    tagsFrom isFine 128 0
+    ≡ 13 ∷ 14 ∷ 18 ∷ 19 ∷ 20 ∷ 23 ∷ 24 ∷ 67 ∷ 68 ∷ 82 ∷ 83 ∷ 84 ∷ 85 ∷ 86 ∷ 87 ∷ 88 ∷ 89 ∷ 90 ∷ 91 ∷ []
+unfolding groups member itemIn itemOf onto tagsFrom isFine codes half origin reach steps
+fine-tags = refl
+
+-- and there is no third kind
+evenStep : Found → Bool
+evenStep (Known i) = not (scaled i) || not (eqb (steps i) (reach i))
+evenStep Absent = true
+
+all-uneven : allBelow (λ t. evenStep (itemOf t)) 128 ≡ true
+unfolding groups member itemIn itemOf evenStep codes half origin reach steps
+all-uneven = refl
+
+pub no-even-step : (t : ℕ) (i : Item) → Scaled t i → steps i ≡ reach i → ⊥
+unfolding evenStep
+no-even-step t i s e =
+    byLt t 128
+    (λ h. clash (sym (eq-eqb (steps i) (reach i) e) ∙ not-true _ (unless (scaled i) _ (rw (s .known) at (all-below (λ t. evenStep (itemOf t)) 128 all-uneven t h)) (s .has-scale))))
+    (λ h. let z : Known i ≡ Absent = sym (s .known) ∙ item-beyond t h in clash (let b : true ≡ false = cc in b))

@@ -1,0 +1,247 @@
+// Codes and house units: what a stored code stands for, and the code of a value, to the nearest, for every item that has a scale.
+ghost use mathlib.Core.Path.{_≡_};
+ghost use mathlib.Core.Bool.{true, false, _&&_};
+ghost use Prim.Native.Nat.{_*_, _/_, _^_, _<_, _≤_};
+ghost use lib.Dec.{leb};
+ghost use lib.IntN.{ℤ, natAbs, _-ℤ_, _+ℤ_, pos};
+ghost use lib.Signed.{mag, ltZ};
+ghost use Rattle.catalogue.specs.Items.{itemOf};
+ghost use Rattle.catalogue.specs.Shapes.{isMarked};
+ghost use Rattle.catalogue.specs.declared.Found.the-variants.{Known};
+ghost use Rattle.scale.specs.Nearest.{nearest};
+ghost use Rattle.scale.specs.Scales.{isNumber, isOutside, side};
+ghost use Rattle.scale.specs.Conversions.{houseOf, houseBy, toHouse, codeOf, codeBy, toCode};
+ghost use Rattle.scale.specs.Rule.{Rule, Scales, Counted};
+ghost use Rattle.scale.specs.Said.{houseSaid, codeSaid};
+use catalogue::Found;
+use catalogue::Item;
+use catalogue::Sign;
+use refusal::Reason;
+use refusal::Refusal;
+
+// In house units.
+pub struct House {
+    pub value: i64,
+}
+
+pub enum ToHouse {
+    Is(House),
+    Refused(Refusal),
+}
+
+// As it is stored, unsigned.
+pub struct Code {
+    pub code: u64,
+}
+
+pub enum ToCode {
+    Is(Code),
+    Refused(Refusal),
+}
+
+// What a code of an item stands for, in house units.
+pub fn to_house(tag: u64, code: u64) -> ToHouse
+    ensures { λ r. ⌜ houseSaid r ≡ toHouse tag code ⌝ }
+{
+    match catalogue::item_of(tag) {
+        Found::Known(item) => item_house(item, tag, code),
+        Found::Absent => ToHouse::Refused(refuse(Reason::NoScale, tag)),
+    }
+}
+
+// The code of an item that is nearest to a value in house units.
+pub fn to_code(tag: u64, value: i64) -> ToCode
+    ensures { λ r. ⌜ codeSaid r ≡ toCode tag value ⌝ }
+{
+    match catalogue::item_of(tag) {
+        Found::Known(item) => item_code(item, tag, value),
+        Found::Absent => ToCode::Refused(refuse(Reason::NoScale, tag)),
+    }
+}
+
+// A conversion's refusal: it has no place.
+fn refuse(reason: Reason, tag: u64) -> Refusal
+    ensures { λ r. ⌜ (r .reason ≡ reason) × (r .place ≡ 0) × (r .tag ≡ tag) ⌝ }
+{
+    Refusal {
+        reason,
+        place: 0,
+        tag,
+    }
+}
+
+fn item_house(item: Item, tag: u64, code: u64) -> ToHouse
+    requires { ⌜ itemOf tag ≡ Known item ⌝ }
+    ensures { λ r. ⌜ houseSaid r ≡ houseBy tag code (Known item) ⌝ }
+{
+    if item.low < item.high {
+        if is_number(item, code) {
+            return ToHouse::Is(House {
+                value: house_of(item, code),
+            });
+        }
+        return ToHouse::Refused(refuse(Reason::NotANumber, tag));
+    }
+    ToHouse::Refused(refuse(Reason::NoScale, tag))
+}
+
+fn item_code(item: Item, tag: u64, value: i64) -> ToCode
+    requires { ⌜ itemOf tag ≡ Known item ⌝ }
+    ensures { λ r. ⌜ codeSaid r ≡ codeBy tag value (Known item) ⌝ }
+{
+    if item.low < item.high {
+        if value < item.low {
+            return ToCode::Refused(refuse(Reason::ValueOutOfRange, tag));
+        }
+        if item.high < value {
+            return ToCode::Refused(refuse(Reason::ValueOutOfRange, tag));
+        }
+        return ToCode::Is(Code {
+            code: code_of(item, value),
+        });
+    }
+    ToCode::Refused(refuse(Reason::NoScale, tag))
+}
+
+// How many codes a number of so many bytes has.
+fn codes_of(width: usize) -> u64
+    requires { ⌜ width < 5 ⌝ }
+    ensures { λ r. ⌜ r ≡ 2 ^ (8 * width) ⌝ }
+{
+    1 << (8 * width)
+}
+
+fn has_mark(sign: Sign) -> bool
+    ensures { λ r. ⌜ r ≡ isMarked sign ⌝ }
+{
+    match sign {
+        Sign::Marked => true,
+        Sign::Signed => false,
+        Sign::Unsigned => false,
+    }
+}
+
+// Whether a code stands for a number: it fits and is no mark.
+fn is_number(item: Item, code: u64) -> bool
+    requires { ⌜ Rule item ⌝ }
+    ensures { λ r. ⌜ r ≡ isNumber item code ⌝ }
+{
+    let codes = codes_of(item.width);
+    if codes <= code {
+        return false;
+    }
+    let sign = item.sign;
+    if has_mark(sign) {
+        return code != codes / 2;
+    }
+    true
+}
+
+// An item's scale: values are counted from the origin, and as many house units as reach are as many codes as steps,
+// both divided by what they share, so that the products below fit.
+struct Scale {
+    origin: i64,
+    signed: bool,
+    codes: u64,
+    reach: u64,
+    steps: u64,
+}
+
+fn scale_of(item: Item) -> Scale
+    requires { ⌜ Rule item ⌝ }
+    ensures { λ r. ⌜ Scales item r ⌝ }
+{
+    let codes = codes_of(item.width);
+    let low = item.low;
+    let high = item.high;
+    let sign = item.sign;
+    match sign {
+        Sign::Unsigned => Scale {
+            origin: low,
+            signed: false,
+            codes,
+            reach: apart(low, high) / 5,
+            steps: (codes - 1) / 5,
+        },
+        Sign::Signed => two_sided(codes, high),
+        Sign::Marked => two_sided(codes, high),
+    }
+}
+
+// The scale of a signed item, counted from zero.
+fn two_sided(codes: u64, high: i64) -> Scale
+    requires { ⌜ 2 ≤ codes ⌝ }
+    requires { ⌜ ltZ high (pos 0) ≡ false ⌝ }
+    ensures { λ r. ⌜ Counted codes high r ⌝ }
+{
+    Scale {
+        origin: 0,
+        signed: true,
+        codes,
+        reach: high as u64,
+        steps: codes / 2 - 1,
+    }
+}
+
+// How far it is from one value up to another.
+fn apart(from: i64, to: i64) -> u64
+    requires { ⌜ (ltZ to from ≡ false) × (mag from < 2 ^ 62) × (mag to < 2 ^ 62) ⌝ }
+    ensures { λ r. ⌜ r ≡ natAbs (to -ℤ from) ⌝ }
+{
+    (to - from) as u64
+}
+
+// The nearest whole number to p / q, a tie going up.
+fn rounded(p: u64, q: u64) -> u64
+    requires { ⌜ 0 < q ⌝ }
+    requires { ⌜ p < 2 ^ 63 ⌝ }
+    ensures { λ r. ⌜ r ≡ nearest p q ⌝ }
+{
+    let whole = p / q;
+    let rest = p % q;
+    if q - rest <= rest {
+        return whole + 1;
+    }
+    whole
+}
+
+// Whether a code is below zero in two's complement.
+fn is_below(s: Scale, code: u64) -> bool
+    ensures { λ r. ⌜ r ≡ (s .signed && leb (s .codes / 2) code) ⌝ }
+{
+    if s.signed {
+        return s.codes / 2 <= code;
+    }
+    false
+}
+
+fn house_of(item: Item, code: u64) -> i64
+    requires { ⌜ Rule item ⌝ }
+    requires { ⌜ isNumber item code ≡ true ⌝ }
+    ensures { λ r. ⌜ r ≡ houseOf item code ⌝ }
+{
+    let s = scale_of(item);
+    if is_below(s, code) {
+        let units = rounded((s.codes - code) * s.reach, s.steps);
+        return s.origin - (units as i64);
+    }
+    let units = rounded(code * s.reach, s.steps);
+    s.origin + (units as i64)
+}
+
+fn code_of(item: Item, value: i64) -> u64
+    requires { ⌜ Rule item ⌝ }
+    requires { ⌜ isOutside item value ≡ false ⌝ }
+    ensures { λ r. ⌜ r ≡ codeOf item value ⌝ }
+{
+    let s = scale_of(item);
+    let origin = s.origin;
+    if value < origin {
+        let far = rounded(apart(value, origin) * s.steps, s.reach);
+        if 0 < far {
+            return s.codes - far;
+        }
+        return far;
+    }
+    rounded(apart(origin, value) * s.steps, s.reach)
+}
