@@ -14,7 +14,7 @@ use Rattle.rows.specs.Kinds.{Row, shapeFor, kindIn}
 use Rattle.rows.specs.declared.Content.{Content}
 use Rattle.rows.specs.declared.Content.the-variants as content
 use Rattle.rows.specs.declared.Part.{Part}
-use Rattle.rows.specs.declared.SingleRow.{SingleRow}
+use Rattle.rows.specs.declared.Row.{Row as SingleRow}
 use Rattle.rows.specs.declared.Taken.{Taken}
 use Rattle.rows.specs.declared.Taken.the-variants.{Is, Refused}
 

@@ -135,13 +135,13 @@ pub enum Content {
 }
 
 // A row taken out singly.
-pub struct SingleRow {
+pub struct Row {
     pub tag: u64,
     pub content: Content,
 }
 
 pub enum Taken {
-    Is(SingleRow),
+    Is(Row),
     Refused(Refusal),
 }
 
@@ -215,7 +215,7 @@ fn single(shape: Shape, room: usize, n: usize, row: RowWords) -> Taken
     ensures { λ r. ⌜ takenSaid r ≡ rowTaken shape room n row ⌝ }
 {
     if is_good_row(shape, room, row) {
-        return Taken::Is(SingleRow {
+        return Taken::Is(Row {
             tag: row.tag,
             content: content_of(shape, row),
         });

@@ -4,13 +4,26 @@ use mathlib.Core.Path.{_≡_, refl}
 use mathlib.Core.Bool.{true}
 use Rattle.base.specs.Every.{all}
 use Rattle.number.specs.Stored.{valueFrom}
-use Rattle.ber.specs.Read.{readLength}
+use Rattle.ber.specs.Read.{readTag, tagSecond, tagThird, readLength}
+use Rattle.checksum.specs.Sum.{weighed}
+use Rattle.tagset.specs.Sets.{holds}
 use Rattle.catalogue.specs.Items.{groups, member, itemIn, itemOf}
+use Rattle.catalogue.specs.Shapes.{shapeOf, codeAllowed}
+use Rattle.catalogue.specs.Rows.{rows, rowsFrom, allTags}
+use Rattle.knowing.specs.Good.{inCatalogue, good}
 use Rattle.scale.specs.Nearest.{nearest}
 use Rattle.scale.specs.Scales.{codes, half, origin, reach, steps}
 use Rattle.scale.specs.Conversions.{houseOf, toHouse, codeOf, toCode}
-use Rattle.worked.specs.Values.{right, values}
+use Rattle.packet.specs.Pieces.{readItem, walk}
+use Rattle.packet.specs.Structure.{key, lastly, ends, afterOuter, structure}
+use Rattle.packet.specs.Judge.{faultOf, judgeFrom, judge}
+use Rattle.packet.specs.Verdict.{verdict}
+use Rattle.packet.specs.Rows.{shapeFor, rowOf, rowsOf, words, tableOf, lentVerdict, readAnswer, readTable}
+use Rattle.worked.specs.Values.{right, packet, values}
 
 pub all-right : all right values ≡ true
 unfolding values readLength valueFrom groups member itemIn itemOf codes half origin reach steps nearest houseOf toHouse codeOf toCode
+    readTag tagSecond tagThird weighed holds shapeOf codeAllowed rows rowsFrom allTags inCatalogue good
+    readItem walk key lastly ends afterOuter structure faultOf judgeFrom judge verdict
+    shapeFor rowOf rowsOf words tableOf lentVerdict readAnswer readTable packet
 all-right = refl

@@ -1,13 +1,18 @@
 -- Document 01, Worked values: those with a star, as one list, and one test over the definitions that the contracts cite.
-use Prim.Native.Nat.{ℕ}
+use Prim.Native.Nat.{ℕ, _-_, _*_, _+_}
 use mathlib.Core.Bool.{Bool, true, false, _&&_}
-use mathlib.Core.List.{List, [], _∷_}
+use mathlib.Core.List.{List, [], _∷_, _++_}
+use lib.ListN.{length, replicate}
 use lib.Dec.{eqb}
 use lib.IntN.{ℤ, pos, negℤ}
 use Rattle.refusal.specs.Answer.{Answer, given, refused}
 use Rattle.ber.specs.Read.{Read, got, broken, readLength}
+use Rattle.catalogue.specs.Rows.{allTags}
 use Rattle.catalogue.proofs.Same.{sameWhole}
 use Rattle.scale.specs.Conversions.{toHouse, toCode}
+use Rattle.packet.specs.Structure.{key, same}
+use Rattle.packet.specs.Rows.{words, readAnswer, readTable}
+use Rattle.rows.specs.Kinds.{Row}
 
 abbrev pub sameRead : Read → Read → Bool
 sameRead (got v s) (got w t) = eqb v w && eqb s t
@@ -21,17 +26,41 @@ sameAnswer same (given a) (refused n p t) = false
 sameAnswer same (refused m q u) (given b) = false
 sameAnswer same (refused m q u) (refused n p t) = eqb m n && (eqb q p && eqb u t)
 
+-- a lent table of words that are not zero, one longer than the reader needs
+abbrev pub lent : List ℕ
+lent = replicate 513 7
+
+-- what a table holds after these rows: zeros up to word 512, and the word beyond as it was
+abbrev pub tableWith : List Row → List ℕ
+tableWith rows = words rows ++ (replicate (512 - 4 * length rows) 0 ++ (7 ∷ []))
+
+-- a number's row, by the place of its value
+abbrev pub numberRow : ℕ → ℕ → ℕ → ℕ → Row
+numberRow place size tag code = record { tag = tag; kind = 1; code = code; spot = place * 65536 + size }
+
 pub data Case : Type 0 where
   -- the bytes of a length, and what reading them finds
   lengthCase : List ℕ → Read → Case
   -- a tag, a code and its value in house units; a tag, a value and its code
   houseCase : ℕ → ℕ → Answer ℤ → Case
   codeCase : ℕ → ℤ → Answer ℕ → Case
+  -- a packet and the rows that a receiver of the whole catalogue reads
+  packetCase : List ℕ → List Row → Case
 
 abbrev pub right : Case → Bool
 right (lengthCase bytes found) = sameRead (readLength bytes) found
 right (houseCase tag code answer) = sameAnswer sameWhole (toHouse tag code) answer
 right (codeCase tag value answer) = sameAnswer eqb (toCode tag value) answer
+right (packetCase packet rows) =
+    sameAnswer eqb (readAnswer allTags packet lent) (given (length rows)) && same (readTable allTags packet lent) (tableWith rows)
+
+-- "The packet key, 11, 02 08 00 00 00 00 00 00 00 01, 41 01 11, 01 02 62 A6 is accepted."
+unfoldable pub packet : List ℕ
+packet =
+    key
+    ++ (0x11 ∷ 0x02 ∷ 0x08 ∷ 0x00 ∷ 0x00 ∷ 0x00 ∷ 0x00 ∷ 0x00 ∷ 0x00 ∷ 0x00 ∷ 0x01
+    ∷ 0x41 ∷ 0x01 ∷ 0x11
+    ∷ 0x01 ∷ 0x02 ∷ 0x62 ∷ 0xA6 ∷ [])
 
 -- "Lengths: 7F and 81 7F are 127; 80 and 85 are refused": these two with bytes enough after them
 unfoldable pub values : List Case
@@ -55,4 +84,6 @@ values =
     -- a tie, and just below it
     ∷ codeCase 36 (pos 10000) (given 26)
     ∷ codeCase 36 (pos 9999) (given 25)
+    -- the packet: place, length, tag and code of its rows
+    ∷ packetCase packet (numberRow 19 8 2 1 ∷ numberRow 29 1 65 17 ∷ numberRow 32 2 1 25254 ∷ [])
     ∷ []
