@@ -20,7 +20,7 @@ use Rattle.packet.specs.Headers.{itemBy}
 use Rattle.packet.specs.Tally.{faultIn}
 use Rattle.packet.specs.declared.Header.{Header}
 
-sixty-three : shapeOf 63 ≡ shapeOf 34
+pub sixty-three : shapeOf 63 ≡ shapeOf 34
 unfolding shapeOf itemOf itemIn member groups
 sixty-three = refl
 

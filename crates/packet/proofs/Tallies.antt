@@ -39,10 +39,10 @@ no-bits : (t : ℕ) → holds (record { low = 0; high = 0 }) t ≡ false
 unfolding holds
 no-bits t = ap (λ x. eqb (x % 2) 1) (div-eq-of-lt (pow-pos t))
 
-none-seen : SeenBy (record { low = 0; high = 0 }) []
+pub none-seen : SeenBy (record { low = 0; high = 0 }) []
 none-seen = record { words = record { low64 = omega arith; high64 = omega arith }; each = λ t h. no-bits t }
 
-one-seen : (s : TagSet) (ts : List ℕ) (u : ℕ) → SeenBy s ts → SeenBy (withTag s u) (u ∷ ts)
+pub one-seen : (s : TagSet) (ts : List ℕ) (u : ℕ) → SeenBy s ts → SeenBy (withTag s u) (u ∷ ts)
 one-seen s ts u b =
     record {
       words = with-words s (b .words) u;

@@ -1,7 +1,7 @@
 // Rows: what a receiver makes of an item, and a row taken out of a table by itself.
 ghost use mathlib.Core.Path.{_≡_};
-ghost use Prim.Native.Nat.{_+_, _*_, _<_, _≤_};
-ghost use lib.ListN.{length};
+ghost use Prim.Native.Nat.{_+_, _*_};
+ghost use lib.ListN.{length, getD};
 ghost use Rattle.refusal.specs.Numbers.{number};
 ghost use Rattle.refusal.specs.Answer.{refused as refusedBy};
 ghost use lib.Dec.{eqb};
@@ -171,16 +171,28 @@ pub fn tag_shown(tag: u64) -> u64
     0
 }
 
-fn row_at(words: &[u64], n: usize) -> RowWords
-    requires { ⌜ (n < 128) × (4 * n + 4 ≤ length (now words)) ⌝ }
+// Word k of the row numbered n, and 0 past the end.
+fn word_at(words: &[u64], n: usize, k: usize) -> u64
+    ensures { λ r. ⌜ r ≡ getD (now (words .entry)) (4 * n + k) 0 ⌝ }
+{
+    let lent = words.len();
+    if k < lent {
+        if n <= (lent - 1 - k) / 4 {
+            return words[4 * n + k];
+        }
+    }
+    0
+}
+
+// The four words of the row numbered n, whether it is bad or not.
+pub fn row_at(words: &[u64], n: usize) -> RowWords
     ensures { λ r. ⌜ r ≡ rowAt (now (words .entry)) n ⌝ }
 {
-    let at = 4 * n;
     RowWords {
-        tag: words[at],
-        kind: words[at + 1],
-        code: words[at + 2],
-        spot: words[at + 3],
+        tag: word_at(words, n, 0),
+        kind: word_at(words, n, 1),
+        code: word_at(words, n, 2),
+        spot: word_at(words, n, 3),
     }
 }
 

@@ -2,13 +2,12 @@
 -- Assumes nothing.
 use borrow.Author.Needs.{needs}
 use mathlib.Core.Path.{sym, ap, _∙_}
-use native.Mathlib.Omega.{arith}
 use lib.ListN.{length}
 use borrow.Author.Tests.{lt-ltb, le-ltb}
 use Rattle.tagset.specs.Sets.{holds}
 use Rattle.rows.specs.Taken.{rowTaken, rowTakenAt}
 use Rattle.rows.specs.Kinds.{shapeFor}
-use Rattle.rows.proofs.Laws.{count-good, shape-by-column}
+use Rattle.rows.proofs.Laws.{shape-by-column}
 use Rattle.rows.proofs.take_row.Statement.{statement}
 use Rattle.rows.proofs.take_row.Tie as tie
 
@@ -19,10 +18,7 @@ is-good-count-requires : tie.Need-is-good-count-requires
 is-good-count-requires c κs = search needs
 
 row-at-requires : tie.Need-row-at-requires
-row-at-requires c κs =
-    let a = c .before .before .before .before .before .before .before .args in
-    let k = count-good (a .count) (length (a .words .now)) (sym (c .before .before .is-good-count .ensures) ∙ c .before .if2 .taken) in
-    (omega arith, omega arith)
+row-at-requires c κs = search needs
 
 shapes-requires : tie.Need-shapes-requires
 shapes-requires c κs = search needs

@@ -1,0 +1,5 @@
+pub mod Walked
+pub mod Ends
+pub mod Stages
+pub mod Outcomes
+pub mod Given

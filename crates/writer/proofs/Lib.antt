@@ -1,0 +1,6 @@
+pub mod Puts
+pub mod Values
+pub mod Rest
+pub mod Whole
+pub mod Answers
+pub mod Outcomes

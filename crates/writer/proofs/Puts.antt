@@ -1,0 +1,78 @@
+-- Bytes put at a place that has room for them, one run after another.
+-- Assumes nothing.
+use Prim.Native.Nat.{ℕ, _+_, _-_, _≤_}
+use native.Mathlib.Omega.{arith}
+use native.Mathlib.Nat.{add-zero, zero-add}
+use mathlib.Core.Path.{_≡_, refl, ap, sym, _∙_}
+use mathlib.Core.List.{List, [], _++_, append-assoc}
+use lib.ListN.{length, take, drop, length-append, length-take, length-drop, take-append-drop}
+use lib.Seq.{length-take-le, drop-drop, take-at, drop-at, paste}
+use borrow.Rule.Slice.PartMut.{midOf, putMid}
+use borrow.Author.Tests.{le-leb}
+use Rattle.number.specs.Stored.{bytesOf}
+use Rattle.number.proofs.Laws.{length-bytesOf}
+use Rattle.ber.specs.Written.{putInto, putCount}
+
+pub put-room : (o : List ℕ) (at : ℕ) (bs : List ℕ) → at + length bs ≤ length o → putInto o at bs ≡ take at o ++ (bs ++ drop (at + length bs) o)
+unfolding putInto
+put-room o at bs h = rw (le-leb _ _ h)
+
+pub put-count : (o : List ℕ) (at : ℕ) (bs : List ℕ) → at + length bs ≤ length o → putCount o at bs ≡ length bs
+unfolding putCount
+put-count o at bs h = rw (le-leb _ _ h)
+
+pub put-length : (o : List ℕ) (at : ℕ) (bs : List ℕ) → at + length bs ≤ length o → length (putInto o at bs) ≡ length o
+put-length o at bs h =
+    rw (put-room o at bs h, length-append, length-append, length-take-le at o (omega arith), length-drop) (omega arith)
+
+module _ (o : List ℕ) (at : ℕ) where
+  -- what stands before the end of a run, and after it
+  module _ (bs : List ℕ) (h : at + length bs ≤ length o) where
+    cut : putInto o at bs ≡ take at o ++ bs ++ drop (at + length bs) o
+    cut = put-room o at bs h ∙ sym (append-assoc (take at o) bs (drop (at + length bs) o))
+
+    seam : length (take at o ++ bs) ≡ at + length bs
+    seam = length-append (take at o) bs ∙ ap (λ n. n + length bs) (length-take-le at o (omega arith))
+
+    pub front : take (at + length bs) (putInto o at bs) ≡ take at o ++ bs
+    front = ap (take (at + length bs)) cut ∙ take-at (take at o ++ bs) (drop (at + length bs) o) (at + length bs) seam
+
+    pub back : drop (at + length bs) (putInto o at bs) ≡ drop (at + length bs) o
+    back = ap (drop (at + length bs)) cut ∙ drop-at (take at o ++ bs) (drop (at + length bs) o) (at + length bs) seam
+
+  -- a run, and then another right after it
+  pub put-more : (bs cs : List ℕ) → at + length bs + length cs ≤ length o → putInto (putInto o at bs) (at + length bs) cs ≡ putInto o at (bs ++ cs)
+  put-more bs cs h =
+      let first : at + length bs ≤ length o = omega arith in
+      let m : ℕ = at + length bs in
+      let k : at + length (bs ++ cs) ≡ m + length cs = rw length-append (omega arith) in
+      let rest : drop (m + length cs) (putInto o at bs) ≡ drop (m + length cs) o =
+          sym (drop-drop (length cs) m (putInto o at bs)) ∙ (ap (drop (length cs)) (back bs first) ∙ drop-drop (length cs) m o) in
+      put-room (putInto o at bs) m cs (rw (put-length o at bs first) h)
+      ∙ (ap (λ l. l ++ (cs ++ drop (m + length cs) (putInto o at bs))) (front bs first)
+      ∙ (ap (λ l. take at o ++ bs ++ (cs ++ l)) rest
+      ∙ (append-assoc (take at o) bs (cs ++ drop (m + length cs) o)
+      ∙ (ap (λ l. take at o ++ l) (sym (append-assoc bs cs (drop (m + length cs) o)))
+      ∙ (ap (λ n. take at o ++ (bs ++ cs ++ drop n o)) (sym k)
+      ∙ sym (put-room o at (bs ++ cs) (rw k h)))))))
+
+  pub put-nothing : at ≤ length o → putInto o at [] ≡ o
+  put-nothing h = put-room o at [] (omega arith) ∙ rw add-zero (take-append-drop at o)
+
+  -- a part of the output is lent and filled
+  pub part-filled : (n x : ℕ) → at + n ≤ length o → (filled : List ℕ) → filled ≡ bytesOf (length (midOf at (at + n - at) o)) x → putMid at (at + n - at) o filled ≡ putInto o at (bytesOf n x)
+  part-filled n x h filled e =
+      let k : at + n - at ≡ n = omega arith in
+      let w : length (take n (drop at o)) ≡ n = length-take-le n (drop at o) (rw length-drop (omega arith)) in
+      let l : length (bytesOf n x) ≡ n = length-bytesOf n x in
+      rw (e, k, w, drop-drop n at o, put-room o at (bytesOf n x) (rw l h), l)
+
+  -- a copy
+  pub pasted : (s : List ℕ) (n : ℕ) → at + n ≤ length o → n ≤ length s → paste o at s n ≡ putInto o at (take n s)
+  pasted s n h k =
+      let l : length (take n s) ≡ n = length-take-le n s k in
+      append-assoc (take at o) (take n s) (drop (at + n) o) ∙ sym (put-room o at (take n s) (rw l h) ∙ rw l)
+
+-- at the front
+pub put-front : (o bs : List ℕ) → length bs ≤ length o → putInto o 0 bs ≡ bs ++ drop (length bs) o
+put-front o bs h = put-room o 0 bs (rw zero-add h) ∙ rw zero-add

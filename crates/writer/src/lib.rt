@@ -1,0 +1,142 @@
+// The writer: from a table of rows to a packet in a lent output.
+ghost use mathlib.Core.Path.{_≡_};
+ghost use mathlib.Core.Bool.{true};
+ghost use Prim.Native.Nat.{_+_, _≤_};
+ghost use mathlib.Core.List.{_++_};
+ghost use lib.ListN.{length, take, drop};
+ghost use Rattle.number.specs.Stored.{bytesOf};
+ghost use Rattle.ber.specs.Written.{lengthBytes, putInto};
+ghost use Rattle.tagset.specs.Sets.{holds};
+ghost use Rattle.rows.specs.Taken.{spotLength, rowGood, contentGood};
+ghost use Rattle.packet.specs.Structure.{key};
+ghost use Rattle.packet.specs.Encode.{encode};
+ghost use Rattle.packet.specs.Rows.{valueIn};
+ghost use Rattle.writer.specs.Writes.{Writes};
+ghost use Rattle.writer.specs.Putting.{rowBytes, tableBytes, tablePieces, Rows, Ready};
+use catalogue::Shape;
+use outgoing::Outgoing;
+use refusal::Reason;
+use refusal::Refusal;
+use rows::RowWords;
+use tagset::TagSet;
+
+// So many lowest bytes of a number, at a place of the output.
+fn put_number(out: &mut [u8], at: usize, size: usize, x: u64)
+    requires { ⌜ at + size ≤ length (now out) ⌝ }
+    ensures { λ _. ⌜ now (out .exit) ≡ putInto (now (out .entry)) at (bytesOf size x) ⌝ }
+{
+    let end = at + size;
+    number::put(&mut out[at..end], x);
+}
+
+// A part of the buffer, at a place of the output.
+fn copy(out: &mut [u8], at: usize, buffer: &[u8], place: usize, size: usize)
+    requires { ⌜ (at + size ≤ length (now out)) × (place + size ≤ length (now buffer)) ⌝ }
+    ensures { λ _. ⌜ now (out .exit) ≡ putInto (now (out .entry)) at (take size (drop place (now (buffer .entry)))) ⌝ }
+{
+    let mut i = 0;
+    while i < size {
+        out[at + i] = buffer[place + i];
+        i += 1;
+    }
+}
+
+// A row's value: the bytes of its code, or those that it points at.
+fn put_value(out: &mut [u8], at: usize, shape: Shape, row: RowWords, buffer: &[u8])
+    requires { ⌜ (contentGood shape (length (now buffer)) row ≡ true) × (at + spotLength (row .spot) ≤ length (now out)) ⌝ }
+    ensures { λ _. ⌜ now (out .exit) ≡ putInto (now (out .entry)) at (valueIn shape (now (buffer .entry)) row) ⌝ }
+{
+    let spot = row.spot;
+    let place = (spot / 65536) as usize;
+    let size = (spot % 65536) as usize;
+    match shape {
+        Shape::Number {
+            width: _,
+            marked: _,
+        } => put_number(out, at, size, row.code),
+        Shape::Text => copy(out, at, buffer, place, size),
+        Shape::Absent => copy(out, at, buffer, place, size),
+    }
+}
+
+// A row's item, and the place after it.
+fn put_item(out: &mut [u8], at: usize, shape: Shape, row: RowWords, buffer: &[u8]) -> usize
+    requires { ⌜ (rowGood shape (length (now buffer)) row ≡ true) × (at + length (rowBytes shape (now buffer) row) ≤ length (now out)) ⌝ }
+    ensures { λ r. ⌜ (r ≡ at + length (rowBytes shape (now (buffer .entry)) row)) × (now (out .exit) ≡ putInto (now (out .entry)) at (rowBytes shape (now (buffer .entry)) row)) ⌝ }
+{
+    let size = row.spot % 65536;
+    let after = at + ber::put_tag(out, at, row.tag);
+    let place = after + ber::put_length(out, after, size);
+    put_value(out, place, shape, row, buffer);
+    place + size as usize
+}
+
+// All items, one after another.
+fn put_rows(out: &mut [u8], from: usize, known: TagSet, count: usize, words: &[u64], buffer: &[u8])
+    requires { ⌜ Rows (holds known) (now buffer) count (now words) × (from + length (tableBytes (holds known) (now buffer) count (now words)) ≤ length (now out)) ⌝ }
+    ensures { λ _. ⌜ now (out .exit) ≡ putInto (now (out .entry)) from (tableBytes (holds known) (now (buffer .entry)) count (now (words .entry))) ⌝ }
+{
+    let column = catalogue::shapes();
+    let mut at = from;
+    let mut n: usize = 0;
+    while n < count {
+        let row = rows::row_at(words, n);
+        let shape = rows::shape_for(&column, known, row.tag);
+        at = put_item(out, at, shape, row, buffer);
+        n += 1;
+    }
+}
+
+// Key and length, and the place after them.
+fn put_head(out: &mut [u8], items: usize) -> usize
+    requires { ⌜ 16 + length (lengthBytes items) ≤ length (now out) ⌝ }
+    ensures { λ r. ⌜ (r ≡ 16 + length (lengthBytes items)) × (now (out .exit) ≡ putInto (now (out .entry)) 0 (key ++ lengthBytes items)) ⌝ }
+{
+    put_number(out, 0, 8, 0x060E_2B34_020B_0101);
+    put_number(out, 8, 8, 0x0E01_0301_0100_0000);
+    16 + ber::put_length(out, 16, items as u64)
+}
+
+// The packet: what stands before the items, the items, and the checksum of all before its value.
+fn put_packet(out: &mut [u8], size: usize, items: usize, known: TagSet, count: usize, words: &[u64], buffer: &[u8])
+    requires { ⌜ Ready (holds known) (now buffer) count (now words) size items (length (now out)) ⌝ }
+    ensures { λ _. ⌜ now (out .exit) ≡ putInto (now (out .entry)) 0 (encode (tablePieces (holds known) (now (buffer .entry)) count (now (words .entry)))) ⌝ }
+{
+    let from = put_head(out, items);
+    put_rows(out, from, known, count, words, buffer);
+    let end = size - 2;
+    let sum = checksum::checksum(&out[..end]) as u64;
+    put_number(out, end, 2, sum);
+}
+
+// A packet written: how many bytes of the output it takes.
+pub struct Written {
+    pub size: usize,
+}
+
+pub enum Writing {
+    Packet(Written),
+    Refused(Refusal),
+}
+
+// Writes count rows in lent words as a packet, with the buffer that text and carried rows point into. Bytes of the output after
+// the packet stay, and a refusal leaves all of them.
+pub fn write(known: TagSet, count: usize, words: &[u64], buffer: &[u8], out: &mut [u8]) -> Writing
+    ensures { λ r. ⌜ Writes known count (now (words .entry)) (now (buffer .entry)) (now (out .entry)) r (now (out .exit)) ⌝ }
+{
+    match outgoing::check_rows(known, count, words, buffer) {
+        Outgoing::Refused(refusal) => Writing::Refused(refusal),
+        Outgoing::Fits(packed) => {
+            let size = packed.size;
+            if out.len() < size {
+                return Writing::Refused(Refusal {
+                    reason: Reason::OutputTooShort,
+                    place: 0,
+                    tag: 0,
+                });
+            }
+            put_packet(out, size, packed.items, known, count, words, buffer);
+            Writing::Packet(Written { size })
+        }
+    }
+}
