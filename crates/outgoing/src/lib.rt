@@ -109,7 +109,13 @@ fn fault_at(column: &[u8; 128], known: TagSet, seen: TagSet, row: RowWords) -> F
 }
 
 // The first fault row by row, then item 65.
-fn judged(column: &[u8; 128], known: TagSet, count: usize, words: &[u64], packed: Packed) -> Outgoing
+fn judged(
+    column: &[u8; 128],
+    known: TagSet,
+    count: usize,
+    words: &[u64],
+    packed: Packed,
+) -> Outgoing
     requires { ⌜ now column ≡ shapeColumn ⌝ }
     ensures { λ r. ⌜ outgoingSaid r ≡ judgedIn known count (now (words .entry)) packed ⌝ }
 {

@@ -13,11 +13,11 @@ use Rattle.tagset.specs.Sets.{holds}
 use Rattle.tagset.specs.declared.TagSet.{TagSet}
 use Rattle.rows.proofs.Laws.{count-good}
 use Rattle.packet.specs.Pieces.{Piece}
-use Rattle.packet.specs.Encode.{itemsBytes, encode}
+use Rattle.packet.specs.Encode.{encode}
 use Rattle.outgoing.specs.Outgoing.{outgoing, packedOf, sizeOf}
 use Rattle.outgoing.specs.declared.Packed.{Packed}
 use Rattle.outgoing.proofs.Given.{Outgoes, outgoing-then}
-use Rattle.writer.specs.Putting.{tablePieces, Rows, Ready}
+use Rattle.writer.specs.Putting.{tablePieces, Ready}
 use Rattle.writer.specs.Writes.{Writes, roomy, written, bytesCount, outputBy, writeAnswer, writeOutput, writeSaid}
 use Rattle.writer.specs.declared.Writing.{Writing}
 use Rattle.writer.specs.declared.Writing.the-variants.{Packet, Refused}

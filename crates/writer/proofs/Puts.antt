@@ -3,9 +3,9 @@
 use Prim.Native.Nat.{ℕ, _+_, _-_, _≤_}
 use native.Mathlib.Omega.{arith}
 use native.Mathlib.Nat.{add-zero, zero-add}
-use mathlib.Core.Path.{_≡_, refl, ap, sym, _∙_}
+use mathlib.Core.Path.{_≡_, ap, sym, _∙_}
 use mathlib.Core.List.{List, [], _++_, append-assoc}
-use lib.ListN.{length, take, drop, length-append, length-take, length-drop, take-append-drop}
+use lib.ListN.{length, take, drop, length-append, length-drop, take-append-drop}
 use lib.Seq.{length-take-le, drop-drop, take-at, drop-at, paste}
 use borrow.Rule.Slice.PartMut.{midOf, putMid}
 use borrow.Author.Tests.{le-leb}
@@ -47,7 +47,7 @@ module _ (o : List ℕ) (at : ℕ) where
       let m : ℕ = at + length bs in
       let k : at + length (bs ++ cs) ≡ m + length cs = rw length-append (omega arith) in
       let rest : drop (m + length cs) (putInto o at bs) ≡ drop (m + length cs) o =
-          sym (drop-drop (length cs) m (putInto o at bs)) ∙ (ap (drop (length cs)) (back bs first) ∙ drop-drop (length cs) m o) in
+      sym (drop-drop (length cs) m (putInto o at bs)) ∙ (ap (drop (length cs)) (back bs first) ∙ drop-drop (length cs) m o) in
       put-room (putInto o at bs) m cs (rw (put-length o at bs first) h)
       ∙ (ap (λ l. l ++ (cs ++ drop (m + length cs) (putInto o at bs))) (front bs first)
       ∙ (ap (λ l. take at o ++ bs ++ (cs ++ l)) rest

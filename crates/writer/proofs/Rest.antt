@@ -14,7 +14,7 @@ use Rattle.rows.specs.Kinds.{Row, shapeFor}
 use Rattle.catalogue.specs.declared.Shape.{Shape}
 use Rattle.rows.specs.Taken.{rowAt, rowGood}
 use Rattle.packet.specs.Judge.{Knowing}
-use Rattle.packet.specs.Encode.{itemBytes, itemsBytes}
+use Rattle.packet.specs.Encode.{itemsBytes}
 use Rattle.packet.specs.Rows.{rowsIn, pieceOf, piecesOf}
 use Rattle.laws.proofs.Rows.{GoodRow}
 use Rattle.writer.specs.Putting.{rowBytes, tableBytes}

@@ -2,7 +2,7 @@
 -- Assumes nothing.
 use Prim.Native.Nat.{ℕ, _+_, _≤_}
 use native.Mathlib.Omega.{arith}
-use mathlib.Core.Path.{_≡_, refl, ap, sym, _∙_}
+use mathlib.Core.Path.{_≡_, ap, sym, _∙_}
 use mathlib.Core.Bool.{Bool, true}
 use mathlib.Core.List.{List, _++_}
 use lib.ListN.{length, take, drop, length-append, length-drop}
@@ -12,7 +12,7 @@ use borrow.Author.Tests.{eqb-true, leb-true}
 use Rattle.base.specs.Every.{both-left, both-right}
 use Rattle.number.specs.Stored.{bytesOf}
 use Rattle.number.proofs.Laws.{length-bytesOf}
-use Rattle.ber.specs.Written.{tagBytes, lengthBytes, putInto, putCount, Puts}
+use Rattle.ber.specs.Written.{tagBytes, lengthBytes, putInto, Puts}
 use Rattle.catalogue.specs.declared.Shape.{Shape}
 use Rattle.catalogue.specs.declared.Shape.the-variants.{Text, Number, Absent}
 use Rattle.rows.specs.Kinds.{Row, kindIn}
@@ -92,7 +92,7 @@ module _ (o : List ℕ) (at : ℕ) (s : Shape) (b : List ℕ) (r : Row) (g : row
           let W : List ℕ = valueIn s b r in
           let T : List ℕ = tagBytes (r .tag) in
           let after-length : putInto o₂ (at + n + k) W ≡ putInto o₁ (at + n) (L ++ W) =
-              rw (q .after, length-long) (put-more o₁ (at + n) L W (omega (arith, tag-room, size-is))) in
+          rw (q .after, length-long) (put-more o₁ (at + n) L W (omega (arith, tag-room, size-is))) in
           let after-tag : putInto o₁ (at + n) (L ++ W) ≡ putInto o at (T ++ (L ++ W)) =
-              rw (p .after, tag-long) (put-more o at T (L ++ W) (rw length-append (omega (arith, sizes, size-is)))) in
+          rw (p .after, tag-long) (put-more o at T (L ++ W) (rw length-append (omega (arith, sizes, size-is)))) in
           e ∙ (after-length ∙ (after-tag ∙ ap (putInto o at) (sym whole)))

@@ -4,7 +4,7 @@ use Prim.Native.Nat.{ℕ, _+_, _-_, _≤_}
 use native.Mathlib.Omega.{arith}
 use mathlib.Core.Path.{_≡_, refl, ap, sym, _∙_}
 use mathlib.Core.List.{List, _++_, append-assoc}
-use lib.ListN.{length, take, drop, length-append, length-take, length-drop}
+use lib.ListN.{length, take, drop, length-append}
 use lib.Seq.{length-take-le, take-append-le, drop-at}
 use Rattle.number.specs.Stored.{bytesOf}
 use Rattle.number.proofs.Laws.{length-bytesOf}
@@ -42,13 +42,12 @@ module _ (o : List ℕ) (n : ℕ) (h : 16 + length (lengthBytes n) ≤ length o)
   room = rw (key-put, put-length o 0 key (omega (arith, length-key))) h
 
   pub head-put : (k : ℕ) (o₃ : List ℕ) → Puts o₂ 16 (lengthBytes n) k o₃ → (16 + k ≡ 16 + length (lengthBytes n)) × (o₃ ≡ putInto o 0 (key ++ lengthBytes n))
-  head-put k o₃ p =
-      (
-        ap (λ m. 16 + m) (p .counted ∙ put-count o₂ 16 (lengthBytes n) room),
-        p .after ∙ (ap (λ l. putInto l 16 (lengthBytes n)) key-put
+  head-put k o₃ p = (
+    ap (λ m. 16 + m) (p .counted ∙ put-count o₂ 16 (lengthBytes n) room),
+    p .after ∙ (ap (λ l. putInto l 16 (lengthBytes n)) key-put
         ∙ (ap (λ m. putInto (putInto o 0 key) m (lengthBytes n)) (sym (ap (λ m. 0 + m) length-key))
         ∙ put-more o 0 key (lengthBytes n) (omega (arith, length-key)))),
-      )
+  )
 
 -- the last two bytes put again
 sum-put : (o u s : List ℕ) → length u ≤ length o → 2 ≤ length u → length s ≡ 2 → putInto (putInto o 0 u) (length u - 2) s ≡ putInto o 0 (take (length u - 2) u ++ s)

@@ -98,7 +98,15 @@ fn put_head(out: &mut [u8], items: usize) -> usize
 }
 
 // The packet: what stands before the items, the items, and the checksum of all before its value.
-fn put_packet(out: &mut [u8], size: usize, items: usize, known: TagSet, count: usize, words: &[u64], buffer: &[u8])
+fn put_packet(
+    out: &mut [u8],
+    size: usize,
+    items: usize,
+    known: TagSet,
+    count: usize,
+    words: &[u64],
+    buffer: &[u8],
+)
     requires { ⌜ Ready (holds known) (now buffer) count (now words) size items (length (now out)) ⌝ }
     ensures { λ _. ⌜ now (out .exit) ≡ putInto (now (out .entry)) 0 (encode (tablePieces (holds known) (now (buffer .entry)) count (now (words .entry)))) ⌝ }
 {

@@ -1,6 +1,5 @@
 -- `conversions::below_zero` meets its contract.
 -- Assumes nothing.
-use Prim.Native.Nat.{_+_}
 use native.Mathlib.Omega.{arith}
 use borrow.Author.Needs.{needs}
 use mathlib.Core.Path.{sym}

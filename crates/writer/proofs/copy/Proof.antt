@@ -1,3 +1,5 @@
+-- `writer::copy` meets its contract.
+-- Assumes nothing.
 use mathlib.Core.Path.{_≡_, refl, sym, ap, _∙_}
 use native.Mathlib.Omega.{arith}
 use Prim.Native.Nat.{ℕ, suc, _-_, _+_, _<_, _≤_}
@@ -10,8 +12,6 @@ use Rattle.writer.proofs.Puts.{pasted}
 use borrow.Author.Needs.{needs}
 use Rattle.writer.proofs.copy.Statement.{statement}
 use Rattle.writer.proofs.copy.Tie as tie
-use Rattle.writer.proofs.copy.Reads as reads
-use Rattle.writer.proofs.copy.Lts as lts
 
 abbrev Inv-loop : tie.InvT-loop
 Inv-loop out₀ at buffer place size i₀ out i = (out ≡ paste out₀ at (drop place buffer) i) × (i ≤ size) × (length out ≡ length out₀)
@@ -26,7 +26,7 @@ copied : (o : List ℕ) (at : ℕ) (b : List ℕ) (place size : ℕ) (o′ : Lis
 copied o at b place size o′ i h k less inv =
     let read : getD b (place + i) 0 ≡ getD (drop place b) i 0 = sym (getD-drop place b i 0) in
     let more : set (paste o at (drop place b) i) (at + i) (getD (drop place b) i 0) ≡ paste o at (drop place b) (suc i) =
-        paste-suc o at (drop place b) i 0 (omega arith) (rw length-drop (omega arith)) in
+    paste-suc o at (drop place b) i 0 (omega arith) (rw length-drop (omega arith)) in
     (rw (inv .0, read, add-one) more, omega arith, length-set o′ (at + i) (getD b (place + i) 0) ∙ inv .2)
 
 all-copied : (o : List ℕ) (at : ℕ) (b : List ℕ) (place size i : ℕ) → at + size ≤ length o → place + size ≤ length b → i ≤ size → size ≤ i
@@ -35,43 +35,33 @@ all-copied o at b place size i h k few all =
     let e : i ≡ size = omega arith in
     ap (paste o at (drop place b)) e ∙ pasted o at (drop place b) size h (rw length-drop (omega arith))
 
--- src/lib.rt:32:5
 loop-holds : tie.Need-loop-holds Inv-loop μ-loop
 loop-holds c = (paste-zero (c .args .out .now) (c .args .at) (drop (c .args .place) (c .args .buffer .now)), omega arith, refl)
 
--- src/lib.rt:33:30
 add-out : tie.Need-add-out Inv-loop μ-loop
 add-out c = search needs
 
--- src/lib.rt:33:23
 shared-slice-read-out : tie.Need-shared-slice-read-out Inv-loop μ-loop
 shared-slice-read-out c = omega (arith, c .before .before .before .pre .1, c .before .loop-test .taken)
 
--- src/lib.rt:33:13
 add-out-2 : tie.Need-add-out-2 Inv-loop μ-loop
 add-out-2 c = search needs
 
--- src/lib.rt:33:9
 slice-write-out : tie.Need-slice-write-out Inv-loop μ-loop
 slice-write-out c = omega (arith, c .before .before .before .pre .0, c .before .before .loop .inv .2, c .before .loop-test .taken)
 
--- src/lib.rt:34:9
 add-i : tie.Need-add-i Inv-loop μ-loop
 add-i c = search needs
 
--- src/lib.rt:32:5
 loop-less : tie.Need-loop-less Inv-loop μ-loop
 loop-less c = omega (arith, c .before .loop-test .taken)
 
--- src/lib.rt:32:5
 loop-again : tie.Need-loop-again Inv-loop μ-loop
 loop-again c = copied _ _ _ _ _ _ _ (c .before .before .before .pre .0) (c .before .before .before .pre .1) (c .before .loop-test .taken) (c .before .before .loop .inv)
 
--- src/lib.rt:27:1
 same-length : tie.Need-same-length Inv-loop μ-loop
 same-length c = c .before .loop .inv .2
 
--- src/lib.rt:27:1
 returns : tie.Need-returns Inv-loop μ-loop
 returns c = c .before .loop .inv .0 ∙ all-copied _ _ _ _ _ _ (c .before .before .pre .0) (c .before .before .pre .1) (c .before .loop .inv .1) (c .loop-test .left)
 

@@ -1,5 +1,7 @@
+-- `writer::put_rows` meets its contract.
+-- Assumes nothing.
 use Prim.Native.Nat.{_-_, _≤_}
-use mathlib.Core.Path.{_≡_, refl, sym, ap, _∙_}
+use mathlib.Core.Path.{_≡_, refl, _∙_}
 use native.Mathlib.Omega.{arith}
 use borrow.Author.Needs.{needs}
 use lib.ListN.{length}
@@ -12,12 +14,6 @@ use Rattle.writer.proofs.Rest.{Left, all-left, table-done, asked, done}
 use Rattle.rows.proofs.Laws.{shape-by-column}
 use Rattle.writer.proofs.put_rows.Statement.{statement}
 use Rattle.writer.proofs.put_rows.Tie as tie
-use Rattle.writer.proofs.put_rows.Reads as reads
-use Rattle.writer.proofs.put_rows.Lts as lts
-use Rattle.catalogue.proofs.shapes.Reads as shapes-reads
-use Rattle.rows.proofs.row_at.Reads as row-at-reads
-use Rattle.rows.proofs.shape_for.Reads as shape-for-reads
-use Rattle.writer.proofs.put_item.Reads as put-item-reads
 
 abbrev Inv-loop : tie.InvT-loop
 Inv-loop out₀ from known count words buffer column at₀ n₀ out at n =
@@ -27,44 +23,34 @@ Inv-loop out₀ from known count words buffer column at₀ n₀ out at n =
 abbrev μ-loop : tie.MeasureT-loop
 μ-loop out₀ from known count words buffer column at₀ n₀ out at n = count - n
 
--- src/lib.rt:73:18
 shapes-requires : tie.Need-shapes-requires Inv-loop μ-loop
 shapes-requires c κs = search needs
 
--- src/lib.rt:76:5
 loop-holds : tie.Need-loop-holds Inv-loop μ-loop
 loop-holds c = (c .shapes .ensures, refl, omega arith, all-left _ _ _ _ _ _ (c .before .before .before .before .pre .0 .good) (c .before .before .before .before .pre .1))
 
--- src/lib.rt:77:13
 row-at-requires : tie.Need-row-at-requires Inv-loop μ-loop
 row-at-requires c κs = search needs
 
--- src/lib.rt:78:13
 shape-for-requires : tie.Need-shape-for-requires Inv-loop μ-loop
 shape-for-requires c κs = search needs
 
--- src/lib.rt:79:9
 put-item-requires : tie.Need-put-item-requires Inv-loop μ-loop
 put-item-requires c κs =
     asked _ _ _ _ _ _ _ _ (c .before .before .before .before .before .loop .inv .3) (c .before .before .before .before .loop-test .taken) _ _ (c .before .before .before .row-at .ensures) (c .before .shape-for .ensures ∙ shape-by-column _ _ _ (c .before .before .before .before .before .loop .inv .0))
 
--- src/lib.rt:80:9
 add-n : tie.Need-add-n Inv-loop μ-loop
 add-n c = omega (arith, c .before .before .before .before .before .before .before .loop-test .taken, c .before .before .before .before .before .before .before .before .before .before .before .before .before .pre .0 .few)
 
--- src/lib.rt:76:5
 loop-less : tie.Need-loop-less Inv-loop μ-loop
 loop-less c = omega (arith, c .before .before .before .before .before .before .before .loop-test .taken)
 
--- src/lib.rt:76:5
 loop-again : tie.Need-loop-again Inv-loop μ-loop
 loop-again c = (c .before .before .before .before .before .before .before .before .loop .inv .0, c .before .before .put-item .kept .0 ∙ c .before .before .before .before .before .before .before .before .loop .inv .1, omega (arith, c .before .before .before .before .before .before .before .loop-test .taken), done _ _ _ _ _ _ _ _ (c .before .before .before .before .before .before .before .before .loop .inv .3) (c .before .before .before .before .before .before .before .loop-test .taken) _ _ (c .before .before .before .before .before .before .row-at .ensures) (c .before .before .before .before .shape-for .ensures ∙ shape-by-column _ _ _ (c .before .before .before .before .before .before .before .before .loop .inv .0)) _ _ (c .before .before .put-item .ensures))
 
--- src/lib.rt:69:1
 same-length : tie.Need-same-length Inv-loop μ-loop
 same-length c = c .before .loop .inv .1
 
--- src/lib.rt:69:1
 returns : tie.Need-returns Inv-loop μ-loop
 returns c = table-done _ _ _ _ _ _ _ _ (c .before .loop .inv .3) (c .loop-test .left)
 

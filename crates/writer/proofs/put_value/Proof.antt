@@ -1,60 +1,45 @@
+-- `writer::put_value` meets its contract.
+-- Assumes nothing.
 use borrow.Author.Needs.{needs}
-use mathlib.Core.Path.{_≡_, refl, sym, ap, _∙_}
-use native.Mathlib.Omega.{arith}
+use mathlib.Core.Path.{ap, _∙_}
 use Rattle.ber.specs.Written.{putInto}
 use Rattle.writer.proofs.Values.{inside, number-value}
 use Rattle.writer.proofs.put_value.Statement.{statement}
 use Rattle.writer.proofs.put_value.Tie as tie
-use Rattle.writer.proofs.put_value.Reads as reads
-use Rattle.writer.proofs.put_value.Lts as lts
-use Rattle.writer.proofs.copy.Reads as copy-reads
-use Rattle.writer.proofs.put_number.Reads as put-number-reads
 
--- src/lib.rt:50:25
 enum-told : tie.Need-enum-told
 enum-told c = search needs
 
--- src/lib.rt:50:14
 put-number-requires : tie.Need-put-number-requires
 put-number-requires c κs = search needs
 
--- src/lib.rt:51:29
 enum-told-2 : tie.Need-enum-told-2
 enum-told-2 c = search needs
 
--- src/lib.rt:51:24
 copy-requires : tie.Need-copy-requires
 copy-requires c κs = (c .before .before .before .before .before .pre .1, inside _ _ (c .before .before .before .before .before .args .buffer .now) (c .before .before .before .before .before .args .row) (c .before .enum-told2 .given .1) (c .before .before .before .before .before .pre .0))
 
--- src/lib.rt:52:31
 enum-told-3 : tie.Need-enum-told-3
 enum-told-3 c = search needs
 
--- src/lib.rt:52:26
 copy-requires-2 : tie.Need-copy-requires-2
 copy-requires-2 c κs = (c .before .before .before .before .before .pre .1, inside _ _ (c .before .before .before .before .before .args .buffer .now) (c .before .before .before .before .before .args .row) (c .before .enum-told3 .given .1) (c .before .before .before .before .before .pre .0))
 
--- src/lib.rt:39:1
 same-length : tie.Need-same-length
 same-length c = search needs
 
--- src/lib.rt:39:1
 returns : tie.Need-returns
 returns c = c .before .before .put-number .ensures ∙ ap (putInto _ _) (number-value _ _ _ _ _ (c .before .before .before .before .enum-told .given .1) (c .before .before .before .before .before .before .before .before .pre .0))
 
--- src/lib.rt:39:1
 same-length-2 : tie.Need-same-length-2
 same-length-2 c = search needs
 
--- src/lib.rt:39:1
 returns-2 : tie.Need-returns-2
 returns-2 c = rw (c .before .before .before .before .enum-told2 .given .1) (c .before .before .copy .ensures)
 
--- src/lib.rt:39:1
 same-length-3 : tie.Need-same-length-3
 same-length-3 c = search needs
 
--- src/lib.rt:39:1
 returns-3 : tie.Need-returns-3
 returns-3 c = rw (c .before .before .before .before .enum-told3 .given .1) (c .before .before .copy2 .ensures)
 

@@ -1,44 +1,33 @@
+-- `writer::write` meets its contract.
+-- Assumes nothing.
 use borrow.Author.Needs.{needs}
-use mathlib.Core.Path.{_≡_, refl, sym, ap, _∙_}
-use native.Mathlib.Omega.{arith}
+use mathlib.Core.Path.{refl, sym, ap, _∙_}
 use Rattle.outgoing.specs.Staged.{outgoingSaid}
 use Rattle.writer.proofs.Answers.{rows-refused, fit, too-short, ready, packet-written}
 use Rattle.writer.proofs.write.Statement.{statement}
 use Rattle.writer.proofs.write.Tie as tie
-use Rattle.writer.proofs.write.Reads as reads
-use Rattle.writer.proofs.write.Lts as lts
-use Rattle.outgoing.proofs.check_rows.Reads as check-rows-reads
-use Rattle.writer.proofs.put_packet.Reads as put-packet-reads
 
--- src/lib.rt:127:11
 check-rows-requires : tie.Need-check-rows-requires
 check-rows-requires c κs = search needs
 
--- src/lib.rt:128:27
 enum-known-refusal : tie.Need-enum-known-refusal
 enum-known-refusal c = search needs
 
--- src/lib.rt:129:24
 enum-known-packed : tie.Need-enum-known-packed
 enum-known-packed c = search needs
 
--- src/lib.rt:132:17
 returns : tie.Need-returns
 returns c = too-short _ _ _ _ _ _ (fit _ _ _ _ _ _ (sym (c .before .before .before .before .check-rows .ensures) ∙ ap outgoingSaid (c .before .before .packed .given .1))) (c .if1 .taken) _ refl
 
--- src/lib.rt:138:13
 put-packet-requires : tie.Need-put-packet-requires
 put-packet-requires c κs = ready _ _ _ _ (c .before .before .before .before .before .before .before .before .before .args .out .now) _ (fit _ _ _ _ _ _ (sym (c .before .before .before .before .before .check-rows .ensures) ∙ ap outgoingSaid (c .before .before .before .packed .given .1))) (c .before .if1 .left)
 
--- src/lib.rt:124:1
 returns-2 : tie.Need-returns-2
 returns-2 c = rows-refused _ _ _ _ _ _ _ _ (sym (c .before .before .before .check-rows .ensures) ∙ ap outgoingSaid (c .before .refusal .given .1)) _ refl
 
--- src/lib.rt:124:1
 same-length : tie.Need-same-length
 same-length c = search needs
 
--- src/lib.rt:124:1
 returns-3 : tie.Need-returns-3
 returns-3 c = packet-written _ _ _ _ _ _ (fit _ _ _ _ _ _ (sym (c .before .before .before .before .before .before .before .before .check-rows .ensures) ∙ ap outgoingSaid (c .before .before .before .before .before .before .packed .given .1))) (c .before .before .before .before .if1 .left) _ (c .before .before .put-packet .ensures)
 
