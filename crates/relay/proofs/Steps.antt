@@ -4,7 +4,7 @@ use mathlib.Core.Path.{_≡_, ap, sym, _∙_}
 use mathlib.Core.List.{List}
 use Prim.Native.Nat.{ℕ}
 use Rattle.base.specs.Cases.{never}
-use Rattle.refusal.specs.Answer.{Answer, given, refusal}
+use Rattle.refusal.specs.Answer.{given, refusal}
 use Rattle.refusal.specs.declared.Refusal.{Refusal}
 use Rattle.refusal.proofs.Laws.{refusal-apart}
 use Rattle.tagset.specs.declared.TagSet.{TagSet}
