@@ -1,13 +1,14 @@
 -- When a conversion gives a value and when it refuses: every code that fits and is no mark converts, every value in the range converts,
 -- and 19, 20 and 21 come exactly where document 01 says. A mark is never the answer.
 -- Assumes nothing.
-use Prim.Native.Nat.{ℕ}
+use Prim.Native.Nat.{ℕ, _^_, _<_}
 use native.Mathlib.Omega.{arith}
 use mathlib.Core.Path.{_≡_, refl, ap}
 use mathlib.Core.Bool.{true, false, not}
 use lib.Dec.{ltb}
 use lib.IntN.{ℤ}
-use Rattle.base.specs.Cases.{byBool}
+use lib.Signed.{mag, ltZ}
+use Rattle.base.specs.Cases.{byBool, never}
 use Rattle.base.specs.Every.{both-true}
 use borrow.Author.Tests.{lt-ltb}
 use Rattle.refusal.specs.Answer.{given, refused}
@@ -19,7 +20,9 @@ use Rattle.scale.specs.Scales.{scaled, codes, isNumber, isOutside}
 use Rattle.scale.specs.Conversions.{houseOf, houseBy, toHouse, codeOf, codeBy, toCode}
 use Rattle.scale.specs.Rule.{Rule}
 use Rattle.scale.proofs.Rule.{rule}
-use Rattle.scale.proofs.Numbers.{code-coded}
+use Rattle.scale.proofs.Whole.{inside-small}
+use Rattle.scale.proofs.Items.{neither-left, neither-right}
+use Rattle.scale.proofs.Numbers.{code-coded, house-inside}
 
 -- a tag has a scale where its item has one
 pub record Scaled (t : ℕ) (i : Item) : Type 0 where
@@ -89,6 +92,19 @@ house-given t code i v e h =
 
     not-given : {n p q : ℕ} {C : Type 0} → refused n p q ≡ given v → C
     not-given p = let z : _≡_ {A = ℕ} 0 1 = cc in absurd (omega arith)
+
+-- a value in house units leaves room for a sum
+pub house-small : (t code : ℕ) (v : ℤ) → toHouse t code ≡ given v → mag v < 2 ^ 62
+unfolding toHouse
+house-small t code v h = go (itemOf t) refl
+  where
+    go : (f : Found) → itemOf t ≡ f → mag v < 2 ^ 62
+    go (Known i) e =
+        let g = house-given t code i v e h in
+        let r = scaled-rule (g .scale) in
+        let o = house-inside i r code (g .number) in
+        rw (g .value) (inside-small (i .low) (i .high) (houseOf i code) (r .low-small) (r .high-small) (neither-left (ltZ (houseOf i code) (i .low)) _ o) (neither-right (ltZ (houseOf i code) (i .low)) _ o))
+    go Absent e = let f : refused 19 0 t ≡ given v = rw e at h in never (cc)
 
 pub record CodeGiven (t : ℕ) (v : ℤ) (i : Item) (code : ℕ) : Type 0 where
   pub scale : Scaled t i

@@ -105,9 +105,11 @@ difference-fits (negsuc a) (pos zero) h k = record { sfits = omega (arith, sub-s
 difference-fits (negsuc a) (pos (suc b)) h k = record { sfits = omega arith }
 difference-fits (negsuc a) (negsuc b) h k = record { sfits = omega (arith, sub-small (suc b) a) }
 
-pub sum-fits : (a : ℤ) (n : ℕ) → mag a < 2 ^ 62 → n < 2 ^ 62 → SFits w64 (a +ℤ pos n)
-sum-fits (pos a) n h k = record { sfits = omega arith }
-sum-fits (negsuc a) n h k = record { sfits = omega (arith, sub-small n a) }
+pub sum-fits : (a b : ℤ) → mag a < 2 ^ 62 → mag b < 2 ^ 62 → SFits w64 (a +ℤ b)
+sum-fits (pos a) (pos b) h k = record { sfits = omega arith }
+sum-fits (pos a) (negsuc b) h k = record { sfits = omega (arith, sub-small a b) }
+sum-fits (negsuc a) (pos b) h k = record { sfits = omega (arith, sub-small b a) }
+sum-fits (negsuc a) (negsuc b) h k = record { sfits = omega arith }
 
 pub inside-small : (low high v : ℤ) → mag low < 2 ^ 62 → mag high < 2 ^ 62 → ltZ v low ≡ false → ltZ high v ≡ false → mag v < 2 ^ 62
 inside-small low (pos b) (pos n) h k p q = omega (arith, ltb-false b n q)

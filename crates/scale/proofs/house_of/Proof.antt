@@ -102,7 +102,7 @@ add-result c =
     let k = c .before .before .before .before .before .before .scale-of .ensures in
     let few = above-few (c .before .before) in
     rw (toZ-ofZ (origin-fits (a .args .item) (a .pre .0) k), k .from, toZ-pos w64 {n = c .before .before .rounded2 .result} (omega arith))
-    (sum-fits (origin (a .args .item)) (c .before .before .rounded2 .result) (origin-small (a .args .item) (a .pre .0)) few)
+    (sum-fits (origin (a .args .item)) (pos (c .before .before .rounded2 .result)) (origin-small (a .args .item) (a .pre .0)) few)
 
 returns-2 : tie.Need-returns-2
 returns-2 c =
@@ -116,7 +116,7 @@ returns-2 c =
       toZ-ofZ (origin-fits (a .args .item) (a .pre .0) k),
       k .from,
       toZ-pos w64 {n = c .before .before .rounded2 .result} (omega arith),
-      toZ-ofZ (sum-fits (origin (a .args .item)) (c .before .before .rounded2 .result) (origin-small (a .args .item) (a .pre .0)) few),
+      toZ-ofZ (sum-fits (origin (a .args .item)) (pos (c .before .before .rounded2 .result)) (origin-small (a .args .item) (a .pre .0)) few),
       c .before .before .rounded2 .ensures,
     )
     (house-above (a .args .item) (a .pre .0) (b .scale-of .result) k (a .args .code) above)

@@ -1,0 +1,6 @@
+pub mod Values
+pub mod Answers
+pub mod Rows
+pub mod Present
+pub mod Receivers
+pub mod Outcomes

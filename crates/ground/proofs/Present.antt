@@ -1,0 +1,117 @@
+-- What the rows of an accepted packet say of a scaled tag that the receiver knows: nothing where no row has the tag, off the Earth
+-- just where the row is a mark, and otherwise the reading in house units, which is never refused.
+-- Assumes nothing.
+use Prim.Native.Nat.{ℕ, _+_, _-_, _*_, _^_}
+use native.Mathlib.Omega.{arith}
+use mathlib.Core.Path.{_≡_, sym, ap, _∙_}
+use mathlib.Core.Bool.{Bool, true, false, cond, _&&_, _||_}
+use mathlib.Core.List.{List, [], _∷_}
+use lib.Dec.{ltb, eqb}
+use borrow.Author.Tests.{eqb-true, eq-eqb, ne-eqb, lt-ltb}
+use Rattle.base.specs.Cases.{byBool, byEq, clash}
+use Rattle.base.specs.Every.{Each, both-left, both-right}
+use Rattle.refusal.specs.Answer.{given}
+use Rattle.number.specs.Stored.{Bytes}
+use Rattle.tagset.specs.Sets.{holds}
+use Rattle.tagset.specs.declared.TagSet.{TagSet}
+use Rattle.knowing.specs.Good.{good}
+use Rattle.catalogue.specs.Items.{groups, member, itemIn, itemOf}
+use Rattle.catalogue.specs.Shapes.{isMarked, shapeOf}
+use Rattle.catalogue.specs.declared.Item.{Item}
+use Rattle.catalogue.specs.declared.Found.{Found}
+use Rattle.catalogue.specs.declared.Found.the-variants.{Known, Absent as Unlisted}
+use Rattle.catalogue.specs.declared.Shape.the-variants.{Number}
+use Rattle.rows.specs.Kinds.{Row, shapeFor, markCode}
+use Rattle.rows.specs.Taken.{spotLength, rowGood, tagGood}
+use Rattle.packet.specs.Pieces as pieces
+use Rattle.packet.specs.Judge.{Knowing}
+use Rattle.packet.specs.Verdict.{received}
+use Rattle.packet.specs.Rows.{rowsOf}
+use Rattle.laws.proofs.Structure.{passed}
+use Rattle.laws.proofs.Rows.{GoodRow, rows-good}
+use Rattle.scale.specs.Scales.{scaled, codes, half, isNumber}
+use Rattle.scale.specs.Conversions.{houseOf}
+use Rattle.scale.proofs.Given.{Scaled, scaled-rule, every-code-converts}
+use Rattle.ground.specs.Values.{valueBy, valueIn}
+use Rattle.ground.specs.declared.Value.{Value}
+use Rattle.ground.specs.declared.Value.the-variants.{Absent, Off, At}
+
+pub data In (r : Row) : List Row → Type 0 where
+  here : {rs : List Row} → In r (r ∷ rs)
+  there : {s : Row} {rs : List Row} → In r rs → In r (s ∷ rs)
+
+pub data Says (i : Item) (t : ℕ) (rs : List Row) : Value → Type 0 where
+  nothing : Each (λ r. r .tag ≡ t → ⊥) rs → Says i t rs Absent
+  a-mark : (r : Row) → In r rs → r .tag ≡ t → r .kind ≡ 2 → Says i t rs Off
+  a-reading : (r : Row) → In r rs → r .tag ≡ t → r .kind ≡ 1 → Says i t rs (At (houseOf i (r .code)))
+
+says-after : {i : Item} {t : ℕ} {rs : List Row} {v : Value} (r : Row) → (r .tag ≡ t → ⊥) → Says i t rs v → Says i t (r ∷ rs) v
+says-after r n (nothing e) = nothing (n, e)
+says-after r n (a-mark s m e k) = a-mark s (there m) e k
+says-after r n (a-reading s m e k) = a-reading s (there m) e k
+
+-- the checksum has no scale
+scaledBy : Found → Bool
+scaledBy (Known i) = scaled i
+scaledBy Unlisted = false
+
+unscaled-sum : (i : Item) → Scaled 1 i → ⊥
+unfolding groups member itemIn itemOf scaledBy
+unscaled-sum i s = clash (sym (ap scaledBy (s .known) ∙ s .has-scale))
+
+module _ (K : Knowing) (b : List ℕ) (t : ℕ) (i : Item) (knows : K t ≡ true) (s : Scaled t i) where
+  some-bytes : eqb (i .width) 0 ≡ false
+  unfolding half codes
+  some-bytes =
+      byEq (i .width) 0
+      (λ z. let e : half i + half i ≡ codes i = scaled-rule s .halves in absurd (omega (arith, rw z at e)))
+      (λ n. ne-eqb _ _ n)
+
+  shape-is : shapeFor K t ≡ Number (i .width) (isMarked (i .sign))
+  unfolding shapeFor shapeOf
+  shape-is = rw (knows, s .known, some-bytes)
+
+  abbrev marked : Row → Bool
+  marked r = isMarked (i .sign) && eqb (r .code) (markCode (i .width))
+
+  -- a row of the tag that is not bad is a mark or a number
+  module _ (r : Row) (e : r .tag ≡ t) (g : GoodRow K b r) where
+    parts : (eqb (r .kind) (cond (marked r) 2 1) && (eqb (spotLength (r .spot)) (i .width) && (eqb (r .tag) 1 || ltb (r .code) (2 ^ (8 * i .width))))) ≡ true
+    unfolding rowGood
+    parts = both-right (tagGood (r .tag)) _ (rw (ap (shapeFor K) e ∙ shape-is) at g)
+
+    kind-is : r .kind ≡ cond (marked r) 2 1
+    kind-is = eqb-true _ _ (both-left (eqb (r .kind) (cond (marked r) 2 1)) _ parts)
+
+    no-sum : eqb (r .tag) 1 ≡ false
+    no-sum = byEq (r .tag) 1 (λ z. absurd (unscaled-sum i (rw (← z, e) s))) (λ n. ne-eqb _ _ n)
+
+    fits : ltb (r .code) (2 ^ (8 * i .width)) ≡ true
+    fits = rw no-sum at (both-right (eqb (spotLength (r .spot)) (i .width)) _ (both-right (eqb (r .kind) (cond (marked r) 2 1)) _ parts))
+
+    mark-says : marked r ≡ true → (r .kind ≡ 2) × (valueBy r ≡ Off)
+    unfolding valueBy
+    mark-says m = let k : r .kind ≡ 2 = rw m at kind-is in (k, rw k)
+
+    reading-says : marked r ≡ false → (r .kind ≡ 1) × (valueBy r ≡ At (houseOf i (r .code)))
+    unfolding valueBy codes half
+    reading-says m =
+        let k : r .kind ≡ 1 = rw m at kind-is in
+        let n : isNumber i (r .code) ≡ true = rw (fits, m) in
+        (k, rw (k, e, every-code-converts s (r .code) n))
+
+  value-says : (rs : List Row) → Each (GoodRow K b) rs → Says i t rs (valueIn t rs)
+  unfolding valueIn
+  value-says [] g = nothing tt
+  value-says (r ∷ rs) g =
+      byEq (r .tag) t
+      (λ e. byBool (marked r)
+      (λ m. let y = mark-says r e (g .0) m in rw (eq-eqb _ _ e, lt-ltb (r .kind) 3 (omega (arith, y .0)), y .1) (a-mark r here e (y .0)))
+      (λ m. let y = reading-says r e (g .0) m in rw (eq-eqb _ _ e, lt-ltb (r .kind) 3 (omega (arith, y .0)), y .1) (a-reading r here e (y .0))))
+      (λ n. rw (ne-eqb _ _ n) (says-after r n (value-says rs (g .1))))
+
+pub present : (K : TagSet) (p : List ℕ) (is : List pieces.Item) → Bytes p → received K p ≡ given is → (t : ℕ) (i : Item) → holds K t ≡ true → Scaled t i
+    → Says i t (rowsOf (holds K) is) (valueIn t (rowsOf (holds K) is))
+unfolding received
+present K p is by e t i knows s =
+    value-says (holds K) p t i knows s (rowsOf (holds K) is) (rows-good (holds K) p is by (passed (good K) _ 1 0 0 e .1))

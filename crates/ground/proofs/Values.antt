@@ -1,0 +1,75 @@
+-- What the rows say of a tag, row by row.
+-- Assumes nothing.
+use Prim.Native.Nat.{ℕ, suc, _+_, _-_, _<_, _≤_}
+use native.Mathlib.Omega.{arith}
+use mathlib.Core.Path.{_≡_, refl}
+use mathlib.Core.Bool.{Bool, true, false, _&&_}
+use mathlib.Core.List.{List, [], _∷_}
+use lib.Dec.{ltb, eqb}
+use lib.IntN.{ℤ, _+ℤ_}
+use mir.Syntax.{w64}
+use mir.Val.{SFits}
+use borrow.Author.Tests.{eq-eqb, ne-eqb}
+use Rattle.base.specs.Cases.{byBool}
+use Rattle.refusal.specs.Answer.{Answer, given, refused}
+use Rattle.rows.specs.Kinds.{Row}
+use Rattle.rows.specs.Taken.{rowAt}
+use Rattle.packet.specs.Rows.{rowsIn}
+use Rattle.scale.specs.Conversions.{toHouse}
+use Rattle.scale.specs.Said.{houseSaid}
+use Rattle.scale.specs.declared.ToHouse.{ToHouse}
+use Rattle.scale.proofs.Whole.{sum-fits}
+use Rattle.scale.proofs.Given.{house-small}
+use Rattle.ground.specs.Values.{inHouse, valueBy, valueIn, Small}
+use Rattle.ground.specs.declared.Value.{Value}
+use Rattle.ground.specs.declared.Value.the-variants.{Absent, Off, At}
+
+-- what a row that is present says
+module _ (r : Row) where
+  pub a-mark : r .kind ≡ 2 → Off ≡ valueBy r
+  unfolding valueBy
+  a-mark e = rw (eq-eqb _ _ e)
+
+  pub a-reading : (r .kind ≡ 2 → ⊥) → (h : ToHouse) → houseSaid h ≡ toHouse (r .tag) (r .code) → inHouse (houseSaid h) ≡ valueBy r
+  unfolding valueBy
+  a-reading n h e = rw (ne-eqb _ _ n, ← e)
+
+-- the row numbered n of count rows is the one, or the search goes on after it
+module _ (t : ℕ) (w : List ℕ) (n count : ℕ) where
+  one-row : n < count → rowsIn n (count - n) w ≡ rowAt w n ∷ rowsIn (n + 1) (count - (n + 1)) w
+  unfolding rowsIn
+  one-row h =
+      let e : count - n ≡ suc (count - (n + 1)) = omega arith in
+      let f : n + 1 ≡ suc n = omega arith in
+      rw (e, f)
+
+  module _ (h : n < count) (r : Row) (e : r ≡ rowAt w n) (b : Bool) (p : b ≡ (eqb (r .tag) t && ltb (r .kind) 3)) where
+    pub this-row : b ≡ true → valueBy r ≡ valueIn t (rowsIn n (count - n) w)
+    unfolding valueIn
+    this-row q = rw (one-row h, ← e, ← p, q)
+
+    pub next-row : b ≡ false → valueIn t (rowsIn (n + 1) (count - (n + 1)) w) ≡ valueIn t (rowsIn n (count - n) w)
+    unfolding valueIn
+    next-row q = rw (one-row h, ← e, ← p, q)
+
+  pub no-row : count ≤ n → valueIn t (rowsIn n (count - n) w) ≡ Absent
+  unfolding valueIn rowsIn
+  no-row h = let e : count - n ≡ 0 = omega arith in rw e
+
+-- what a row says is small enough to be added
+house-is-small : (t code : ℕ) (a : Answer ℤ) → toHouse t code ≡ a → Small (inHouse a)
+house-is-small t code (given v) e = house-small t code v e
+house-is-small t code (refused n p u) e = tt
+
+row-small : (r : Row) → Small (valueBy r)
+unfolding valueBy
+row-small r = byBool (eqb (r .kind) 2) (λ e. rw e tt) (λ e. rw e (house-is-small (r .tag) (r .code) (toHouse (r .tag) (r .code)) refl))
+
+pub value-small : (t : ℕ) (rs : List Row) → Small (valueIn t rs)
+unfolding valueIn
+value-small t [] = tt
+value-small t (r ∷ rs) =
+    byBool (eqb (r .tag) t && ltb (r .kind) 3) (λ e. rw e (row-small r)) (λ e. rw e (value-small t rs))
+
+pub both-small : {a b : ℤ} {x y : Value} → x ≡ At a → y ≡ At b → Small x → Small y → SFits w64 (a +ℤ b)
+both-small {a} {b} e f h k = sum-fits a b (rw e at h) (rw f at k)

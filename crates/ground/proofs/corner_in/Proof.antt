@@ -1,0 +1,59 @@
+-- `ground::corner_in` meets its contract.
+-- Assumes nothing.
+use borrow.Author.Needs.{needs}
+use Rattle.ground.proofs.Answers.{no-corner-0, no-corner-5, by-offset, by-full}
+use Rattle.ground.proofs.corner_in.Statement.{statement}
+use Rattle.ground.proofs.corner_in.Tie as tie
+
+returns : tie.Need-returns
+returns c = no-corner-0 _ _ (c .if1 .taken)
+
+returns-2 : tie.Need-returns-2
+returns-2 c = no-corner-5 _ _ (c .if2 .taken)
+
+full-corner-requires : tie.Need-full-corner-requires
+full-corner-requires c κs = search needs
+
+enum-told : tie.Need-enum-told
+enum-told c = search needs
+
+offset-corner-requires : tie.Need-offset-corner-requires
+offset-corner-requires c κs = search needs
+
+enum-told-2 : tie.Need-enum-told-2
+enum-told-2 c = search needs
+
+enum-told-3 : tie.Need-enum-told-3
+enum-told-3 c = search needs
+
+enum-told-4 : tie.Need-enum-told-4
+enum-told-4 c = search needs
+
+returns-3 : tie.Need-returns-3
+returns-3 c = by-offset _ _ (c .before .before .before .before .before .if1 .left) (c .before .before .before .before .if2 .left) (c .before .before .before .full-corner .result) (c .before .before .before .full-corner .ensures) (c .before .enum-told .given .1) (c .offset-corner .result) (c .offset-corner .ensures)
+
+returns-4 : tie.Need-returns-4
+returns-4 c = by-full _ _ (c .before .before .before .before .if1 .left) (c .before .before .before .if2 .left) (c .before .before .full-corner .result) (c .before .before .full-corner .ensures) _ (c .enum-told2 .given .1) tt
+
+returns-5 : tie.Need-returns-5
+returns-5 c = by-full _ _ (c .before .before .before .before .if1 .left) (c .before .before .before .if2 .left) (c .before .before .full-corner .result) (c .before .before .full-corner .ensures) _ (c .enum-told3 .given .1) tt
+
+returns-6 : tie.Need-returns-6
+returns-6 c = by-full _ _ (c .before .before .before .before .if1 .left) (c .before .before .before .if2 .left) (c .before .before .full-corner .result) (c .before .before .full-corner .ensures) _ (c .enum-told4 .given .1) tt
+
+pub corner-in-spec : {M : Type 1} → statement M
+corner-in-spec =
+    tie.close
+    (tie.spec
+    returns
+    returns-2
+    full-corner-requires
+    enum-told
+    offset-corner-requires
+    enum-told-2
+    enum-told-3
+    enum-told-4
+    returns-3
+    returns-4
+    returns-5
+    returns-6)

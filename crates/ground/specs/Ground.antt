@@ -1,0 +1,100 @@
+-- Document 01, Heights and corners: over the rows of an accepted packet.
+use Prim.Native.Nat.{ℕ, _+_, _*_}
+use mathlib.Core.Bool.{cond, _&&_}
+use mathlib.Core.List.{List}
+use lib.Dec.{ltb}
+use lib.IntN.{ℤ, _+ℤ_}
+use Rattle.refusal.specs.Answer.{Answer, given, refused}
+use Rattle.tagset.specs.Sets.{holds}
+use Rattle.tagset.specs.declared.TagSet.{TagSet}
+use Rattle.rows.specs.Kinds.{Row}
+use Rattle.packet.specs.Pieces.{Item}
+use Rattle.packet.specs.Judge.{Knowing}
+use Rattle.packet.specs.Verdict.{received}
+use Rattle.packet.specs.Rows.{rowsOf}
+use Rattle.ground.specs.Values.{valueIn}
+use Rattle.ground.specs.declared.Value.{Value}
+use Rattle.ground.specs.declared.Value.the-variants.{Absent, Off, At}
+
+-- "the answer keeps the kind of height it was"
+pub data HeightSeen : Type 0 where
+  noHeight : HeightSeen
+  overEllipsoid : (mm : ℤ) → HeightSeen
+  overSeaLevel : (mm : ℤ) → HeightSeen
+
+-- the first row "if present, else" the second, "else missing"; no height has a mark
+abbrev pub heightBy : Value → Value → HeightSeen
+heightBy (At mm) other = overEllipsoid mm
+heightBy Off other = noHeight
+heightBy Absent (At mm) = overSeaLevel mm
+heightBy Absent Off = noHeight
+heightBy Absent Absent = noHeight
+
+unfoldable pub heightIn : ℕ → ℕ → List Row → HeightSeen
+heightIn ellipsoid seaLevel rs = heightBy (valueIn ellipsoid rs) (valueIn seaLevel rs)
+
+pub data CornerSeen : Type 0 where
+  noCorner : CornerSeen
+  offTheEarth : CornerSeen
+  on : (latitude longitude : ℤ) → CornerSeen
+
+-- both coordinates, "a mark in any row used gives "off the Earth""
+abbrev pub pointOf : Value → Value → CornerSeen
+pointOf Absent longitude = noCorner
+pointOf Off Absent = noCorner
+pointOf Off Off = offTheEarth
+pointOf Off (At b) = offTheEarth
+pointOf (At a) Absent = noCorner
+pointOf (At a) Off = offTheEarth
+pointOf (At a) (At b) = on a b
+
+-- "each is turned into house units and the plain sum is taken"
+abbrev pub sumOf : Value → Value → Value
+sumOf Absent offset = Absent
+sumOf Off Absent = Absent
+sumOf Off Off = Off
+sumOf Off (At b) = Off
+sumOf (At a) Absent = Absent
+sumOf (At a) Off = Off
+sumOf (At a) (At b) = At (a +ℤ b)
+
+-- the coordinate of a full row, and that of a centre row and an offset row
+abbrev pub fullCoordinate : ℕ → List Row → Value
+fullCoordinate full rs = valueIn full rs
+
+abbrev pub offsetCoordinate : ℕ → ℕ → List Row → Value
+offsetCoordinate centre offset rs = sumOf (valueIn centre rs) (valueIn offset rs)
+
+-- "full rows 80+2k, 81+2k and offset rows 24+2k, 25+2k", with the frame centre's rows 23 and 24
+unfoldable pub fullCorner : ℕ → List Row → CornerSeen
+fullCorner k rs = pointOf (fullCoordinate (80 + 2 * k) rs) (fullCoordinate (81 + 2 * k) rs)
+
+unfoldable pub offsetCorner : ℕ → List Row → CornerSeen
+offsetCorner k rs = pointOf (offsetCoordinate 23 (24 + 2 * k) rs) (offsetCoordinate 24 (25 + 2 * k) rs)
+
+-- "If both full rows are present they decide"
+abbrev pub otherwise : CornerSeen → CornerSeen → CornerSeen
+otherwise noCorner other = other
+otherwise offTheEarth other = offTheEarth
+otherwise (on a b) other = on a b
+
+-- "Any other k is missing."
+unfoldable pub cornerIn : ℕ → List Row → CornerSeen
+cornerIn k rs = cond (ltb 0 k && ltb k 5) (otherwise (fullCorner k rs) (offsetCorner k rs)) noCorner
+
+-- what a receiver works out of the rows of a packet, or "first … the reader's refusal (never 2)"
+abbrev pub rowsGive : {A : Type 0} → Knowing → (List Row → A) → Answer (List Item) → Answer A
+rowsGive K f (given is) = given (f (rowsOf K is))
+rowsGive K f (refused n p t) = refused n p t
+
+unfoldable pub fromRows : {A : Type 0} → (List Row → A) → TagSet → List ℕ → Answer A
+fromRows f K p = rowsGive (holds K) f (received K p)
+
+abbrev pub sensorHeight : TagSet → List ℕ → Answer HeightSeen
+sensorHeight = fromRows (heightIn 75 15)
+
+abbrev pub frameCentreHeight : TagSet → List ℕ → Answer HeightSeen
+frameCentreHeight = fromRows (heightIn 78 25)
+
+abbrev pub cornerOf : ℕ → TagSet → List ℕ → Answer CornerSeen
+cornerOf k = fromRows (cornerIn k)

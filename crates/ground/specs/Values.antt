@@ -1,0 +1,33 @@
+-- Document 01, Heights and corners: what a receiver's rows say of a tag. "A row is present here only if its tag is known; a carried
+-- row never counts."
+use Prim.Native.Nat.{ℕ, _^_, _<_}
+use mathlib.Core.Bool.{cond, _&&_}
+use mathlib.Core.List.{List, [], _∷_}
+use lib.Dec.{ltb, eqb}
+use lib.IntN.{ℤ}
+use lib.Signed.{mag}
+use Rattle.refusal.specs.Answer.{Answer, given, refused}
+use Rattle.rows.specs.Kinds.{Row}
+use Rattle.scale.specs.Conversions.{toHouse}
+use Rattle.ground.specs.declared.Value.{Value}
+use Rattle.ground.specs.declared.Value.the-variants.{Absent, Off, At}
+
+-- a code turned into house units; what is no number is never a place on the Earth
+abbrev pub inHouse : Answer ℤ → Value
+inHouse (given v) = At v
+inHouse (refused n p t) = Off
+
+-- a row that is present: a mark is off the Earth, a reading is in house units
+unfoldable pub valueBy : Row → Value
+valueBy r = cond (eqb (r .kind) 2) Off (inHouse (toHouse (r .tag) (r .code)))
+
+-- the row of a tag, among readings and marks
+unfoldable pub valueIn : ℕ → List Row → Value
+valueIn t [] = Absent
+valueIn t (r ∷ rs) = cond (eqb (r .tag) t && ltb (r .kind) 3) (valueBy r) (valueIn t rs)
+
+-- a value small enough to be added to another
+abbrev pub Small : Value → Type 0
+Small (At v) = mag v < 2 ^ 62
+Small Off = Unit {0}
+Small Absent = Unit {0}
