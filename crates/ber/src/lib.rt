@@ -4,7 +4,8 @@ ghost use Prim.Native.Nat.{_<_};
 ghost use lib.ListN.{length, drop};
 ghost use Rattle.number.specs.Stored.{bytesOf};
 ghost use Rattle.ber.specs.Read.{readTag, tagSecond, tagThird, readLength};
-ghost use Rattle.ber.specs.Written.{tagBytes, lengthBytes, Puts};
+ghost use Rattle.base.specs.Putting.{Puts};
+ghost use Rattle.ber.specs.Written.{tagBytes, lengthBytes};
 ghost use Rattle.ber.specs.Seen.{seen};
 
 // What stands at a place: a number and how many bytes it takes, or nothing that may stand there, cut or forbidden.

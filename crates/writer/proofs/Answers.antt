@@ -8,7 +8,7 @@ use borrow.Author.Tests.{lt-ltb, le-ltb}
 use Rattle.base.specs.Cases.{never}
 use Rattle.refusal.specs.Answer.{Answer, given, refused}
 use Rattle.refusal.proofs.Laws.{refusal-apart}
-use Rattle.ber.specs.Written.{putInto}
+use Rattle.base.specs.Putting.{putInto, put-front}
 use Rattle.tagset.specs.Sets.{holds}
 use Rattle.tagset.specs.declared.TagSet.{TagSet}
 use Rattle.rows.proofs.Laws.{count-good}
@@ -21,7 +21,6 @@ use Rattle.writer.specs.Putting.{tablePieces, Ready}
 use Rattle.writer.specs.Writes.{Writes, roomy, written, bytesCount, outputBy, writeAnswer, writeOutput, writeSaid}
 use Rattle.writer.specs.declared.Writing.{Writing}
 use Rattle.writer.specs.declared.Writing.the-variants.{Packet, Refused}
-use Rattle.writer.proofs.Puts.{put-front}
 
 module _ (K : TagSet) (count : ℕ) (words b o : List ℕ) where
   by-refusal : (n p t : ℕ) → written K count words b (length o) ≡ refused n p t → (r : Writing) → writeSaid r ≡ refused n p t → Writes K count words b o r o

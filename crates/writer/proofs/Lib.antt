@@ -1,4 +1,3 @@
-pub mod Puts
 pub mod Values
 pub mod Rest
 pub mod Whole

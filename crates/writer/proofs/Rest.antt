@@ -9,7 +9,7 @@ use mathlib.Core.Bool.{true}
 use mathlib.Core.List.{List, [], _∷_, _++_}
 use lib.ListN.{length, length-append}
 use Rattle.base.specs.Every.{Each}
-use Rattle.ber.specs.Written.{putInto}
+use Rattle.base.specs.Putting.{putInto, put-length, put-more, put-nothing}
 use Rattle.rows.specs.Kinds.{Row, shapeFor}
 use Rattle.catalogue.specs.declared.Shape.{Shape}
 use Rattle.rows.specs.Taken.{rowAt, rowGood}
@@ -18,7 +18,6 @@ use Rattle.packet.specs.Encode.{itemsBytes}
 use Rattle.packet.specs.Rows.{rowsIn, pieceOf, piecesOf}
 use Rattle.laws.proofs.Rows.{GoodRow}
 use Rattle.writer.specs.Putting.{rowBytes, tableBytes}
-use Rattle.writer.proofs.Puts.{put-length, put-more, put-nothing}
 
 -- the bytes of rows
 abbrev pub bytesOfRows : Knowing → List ℕ → List Row → List ℕ

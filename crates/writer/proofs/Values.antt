@@ -12,7 +12,8 @@ use borrow.Author.Tests.{eqb-true, leb-true}
 use Rattle.base.specs.Every.{both-left, both-right}
 use Rattle.number.specs.Stored.{bytesOf}
 use Rattle.number.proofs.Laws.{length-bytesOf}
-use Rattle.ber.specs.Written.{tagBytes, lengthBytes, putInto, Puts}
+use Rattle.base.specs.Putting.{putInto, Puts, put-count, put-length, put-more}
+use Rattle.ber.specs.Written.{tagBytes, lengthBytes}
 use Rattle.catalogue.specs.declared.Shape.{Shape}
 use Rattle.catalogue.specs.declared.Shape.the-variants.{Text, Number, Absent}
 use Rattle.rows.specs.Kinds.{Row, kindIn}
@@ -20,7 +21,6 @@ use Rattle.rows.specs.Taken.{spotPlace, spotLength, tagGood, partGood, contentG
 use Rattle.packet.specs.Encode.{itemBytes}
 use Rattle.packet.specs.Rows.{valueIn}
 use Rattle.writer.specs.Putting.{rowBytes}
-use Rattle.writer.proofs.Puts.{put-count, put-length, put-more}
 
 part-inside : (room code spot : ℕ) → partGood room code spot ≡ true → spotPlace spot + spotLength spot ≤ room
 part-inside room code spot g = leb-true _ _ (both-right (eqb code 0) _ g)

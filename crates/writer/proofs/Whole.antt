@@ -8,14 +8,14 @@ use lib.ListN.{length, take, drop, length-append}
 use lib.Seq.{length-take-le, take-append-le, drop-at}
 use Rattle.number.specs.Stored.{bytesOf}
 use Rattle.number.proofs.Laws.{length-bytesOf}
-use Rattle.ber.specs.Written.{lengthBytes, putInto, Puts}
+use Rattle.base.specs.Putting.{putInto, Puts, put-room, put-count, put-length, put-more, put-front}
+use Rattle.ber.specs.Written.{lengthBytes}
 use Rattle.checksum.specs.Sum.{checksumOf}
 use Rattle.packet.specs.Pieces.{Piece}
 use Rattle.packet.specs.Structure.{key}
 use Rattle.packet.specs.Encode.{itemsBytes, unsummed, beforeSum, summed, encode}
 use Rattle.laws.proofs.Structure.{length-key}
 use Rattle.laws.proofs.Written.{length-encode}
-use Rattle.writer.proofs.Puts.{put-room, put-count, put-length, put-more, put-front}
 
 -- the key, as two numbers
 abbrev pub keyHigh : ℕ

@@ -2,15 +2,15 @@
 -- Assumes nothing.
 use borrow.Author.Needs.{needs}
 use native.Mathlib.Omega.{arith}
-use Rattle.ber.proofs.Putting.{no-room, part-filled}
+use Rattle.ber.proofs.Putting.{number-without-room, number-puts}
 use Rattle.ber.proofs.put_form.Statement.{statement}
 use Rattle.ber.proofs.put_form.Tie as tie
 
 returns : tie.Need-returns
-returns c = no-room _ _ _ _ (omega arith)
+returns c = number-without-room _ _ _ _ (omega arith)
 
 returns-2 : tie.Need-returns-2
-returns-2 c = no-room _ _ _ _ (omega arith)
+returns-2 c = number-without-room _ _ _ _ (omega arith)
 
 add-end : tie.Need-add-end
 add-end c = search needs
@@ -31,7 +31,7 @@ same-length : tie.Need-same-length
 same-length c = search needs
 
 returns-3 : tie.Need-returns-3
-returns-3 c = part-filled _ _ _ _ (omega arith) _ (c .before .before .put .ensures)
+returns-3 c = number-puts _ _ _ _ (omega arith) _ (c .before .before .put .ensures)
 
 pub put-form-spec : {M : Type 1} → statement M
 put-form-spec =

@@ -5,10 +5,9 @@ use native.Mathlib.Omega.{arith}
 use Prim.Native.Nat.{ℕ, suc, _-_, _+_, _<_, _≤_}
 use native.Mathlib.Numerals.{add-one}
 use mathlib.Core.List.{List}
-use Rattle.ber.specs.Written.{putInto}
+use Rattle.base.specs.Putting.{putInto, pasted}
 use lib.ListN.{length, take, drop, set, getD, length-drop, length-set}
 use lib.Seq.{paste, paste-zero, paste-suc, getD-drop}
-use Rattle.writer.proofs.Puts.{pasted}
 use borrow.Author.Needs.{needs}
 use Rattle.writer.proofs.copy.Statement.{statement}
 use Rattle.writer.proofs.copy.Tie as tie

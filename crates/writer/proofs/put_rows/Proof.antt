@@ -5,7 +5,7 @@ use mathlib.Core.Path.{_≡_, refl, _∙_}
 use native.Mathlib.Omega.{arith}
 use borrow.Author.Needs.{needs}
 use lib.ListN.{length}
-use Rattle.ber.specs.Written.{putInto}
+use Rattle.base.specs.Putting.{putInto}
 use Rattle.tagset.specs.Sets.{holds}
 use Rattle.catalogue.specs.Column.{shapeColumn}
 use Rattle.packet.specs.Rows.{rowsIn}

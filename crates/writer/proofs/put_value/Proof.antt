@@ -2,7 +2,7 @@
 -- Assumes nothing.
 use borrow.Author.Needs.{needs}
 use mathlib.Core.Path.{ap, _∙_}
-use Rattle.ber.specs.Written.{putInto}
+use Rattle.base.specs.Putting.{putInto}
 use Rattle.writer.proofs.Values.{inside, number-value}
 use Rattle.writer.proofs.put_value.Statement.{statement}
 use Rattle.writer.proofs.put_value.Tie as tie

@@ -1,17 +1,30 @@
--- Bytes put at a place that has room for them, one run after another.
+-- Bytes put at a place of a list: all of them where there is room, else nothing.
 -- Assumes nothing.
-use Prim.Native.Nat.{ℕ, _+_, _-_, _≤_}
+use Prim.Native.Nat.{ℕ, _+_, _-_, _<_, _≤_}
 use native.Mathlib.Omega.{arith}
 use native.Mathlib.Nat.{add-zero, zero-add}
 use mathlib.Core.Path.{_≡_, ap, sym, _∙_}
+use mathlib.Core.Bool.{Bool, cond}
 use mathlib.Core.List.{List, [], _++_, append-assoc}
+use lib.Dec.{leb}
 use lib.ListN.{length, take, drop, length-append, length-drop, take-append-drop}
 use lib.Seq.{length-take-le, drop-drop, take-at, drop-at, paste}
 use borrow.Rule.Slice.PartMut.{midOf, putMid}
-use borrow.Author.Tests.{le-leb}
-use Rattle.number.specs.Stored.{bytesOf}
-use Rattle.number.proofs.Laws.{length-bytesOf}
-use Rattle.ber.specs.Written.{putInto, putCount}
+use borrow.Author.Tests.{le-leb, lt-leb}
+
+abbrev pub room : List ℕ → ℕ → List ℕ → Bool
+room o at bs = leb (at + length bs) (length o)
+
+unfoldable pub putInto : List ℕ → ℕ → List ℕ → List ℕ
+putInto o at bs = cond (room o at bs) (take at o ++ (bs ++ drop (at + length bs) o)) o
+
+unfoldable pub putCount : List ℕ → ℕ → List ℕ → ℕ
+putCount o at bs = cond (room o at bs) (length bs) 0
+
+-- bs are put at a place of o: how many bytes, and what o is then
+pub record Puts (o : List ℕ) (at : ℕ) (bs : List ℕ) (count : ℕ) (o′ : List ℕ) : Type 0 where
+  pub counted : count ≡ putCount o at bs
+  pub after : o′ ≡ putInto o at bs
 
 pub put-room : (o : List ℕ) (at : ℕ) (bs : List ℕ) → at + length bs ≤ length o → putInto o at bs ≡ take at o ++ (bs ++ drop (at + length bs) o)
 unfolding putInto
@@ -59,13 +72,17 @@ module _ (o : List ℕ) (at : ℕ) where
   pub put-nothing : at ≤ length o → putInto o at [] ≡ o
   put-nothing h = put-room o at [] (omega arith) ∙ rw add-zero (take-append-drop at o)
 
-  -- a part of the output is lent and filled
-  pub part-filled : (n x : ℕ) → at + n ≤ length o → (filled : List ℕ) → filled ≡ bytesOf (length (midOf at (at + n - at) o)) x → putMid at (at + n - at) o filled ≡ putInto o at (bytesOf n x)
-  part-filled n x h filled e =
-      let k : at + n - at ≡ n = omega arith in
-      let w : length (take n (drop at o)) ≡ n = length-take-le n (drop at o) (rw length-drop (omega arith)) in
-      let l : length (bytesOf n x) ≡ n = length-bytesOf n x in
-      rw (e, k, w, drop-drop n at o, put-room o at (bytesOf n x) (rw l h), l)
+  -- a part of the list is lent and filled
+  module _ (n : ℕ) (h : at + n ≤ length o) where
+    pub part-length : length (midOf at (at + n - at) o) ≡ n
+    part-length =
+        let k : at + n - at ≡ n = omega arith in
+        rw k (length-take-le n (drop at o) (rw length-drop (omega arith)))
+
+    pub part-put : (bs : List ℕ) → length bs ≡ n → putMid at (at + n - at) o bs ≡ putInto o at bs
+    part-put bs e =
+        let k : at + n - at ≡ n = omega arith in
+        rw (k, drop-drop n at o, put-room o at bs (rw e h), e)
 
   -- a copy
   pub pasted : (s : List ℕ) (n : ℕ) → at + n ≤ length o → n ≤ length s → paste o at s n ≡ putInto o at (take n s)
@@ -76,3 +93,12 @@ module _ (o : List ℕ) (at : ℕ) where
 -- at the front
 pub put-front : (o bs : List ℕ) → length bs ≤ length o → putInto o 0 bs ≡ bs ++ drop (length bs) o
 put-front o bs h = put-room o 0 bs (rw zero-add h) ∙ rw zero-add
+
+-- so many bytes put, or none
+module _ (o : List ℕ) (at n : ℕ) (bs : List ℕ) (l : length bs ≡ n) where
+  pub no-room : length o < at + n → Puts o at bs 0 o
+  unfolding putInto putCount
+  no-room h = let k : length o < at + length bs = rw l h in record { counted = rw (lt-leb _ _ k); after = rw (lt-leb _ _ k) }
+
+  pub all-put : at + n ≤ length o → (o′ : List ℕ) → o′ ≡ putInto o at bs → Puts o at bs n o′
+  all-put h o′ e = record { counted = sym (put-count o at bs (rw l h) ∙ l); after = e }
