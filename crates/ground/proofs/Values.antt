@@ -1,7 +1,6 @@
 -- What the rows say of a tag, row by row.
 -- Assumes nothing.
-use Prim.Native.Nat.{ℕ, suc, _+_, _-_, _<_, _≤_}
-use native.Mathlib.Omega.{arith}
+use Prim.Native.Nat.{ℕ, _+_, _-_, _<_, _≤_}
 use mathlib.Core.Path.{_≡_, refl}
 use mathlib.Core.Bool.{Bool, true, false, _&&_}
 use mathlib.Core.List.{List, [], _∷_}
@@ -15,6 +14,7 @@ use Rattle.refusal.specs.Answer.{Answer, given, refused}
 use Rattle.rows.specs.Kinds.{Row}
 use Rattle.rows.specs.Taken.{rowAt}
 use Rattle.packet.specs.Rows.{rowsIn}
+use Rattle.laws.proofs.Tables.{rows-from, rows-none}
 use Rattle.scale.specs.Conversions.{toHouse}
 use Rattle.scale.specs.Said.{houseSaid}
 use Rattle.scale.specs.declared.ToHouse.{ToHouse}
@@ -36,25 +36,18 @@ module _ (r : Row) where
 
 -- the row numbered n of count rows is the one, or the search goes on after it
 module _ (t : ℕ) (w : List ℕ) (n count : ℕ) where
-  one-row : n < count → rowsIn n (count - n) w ≡ rowAt w n ∷ rowsIn (n + 1) (count - (n + 1)) w
-  unfolding rowsIn
-  one-row h =
-      let e : count - n ≡ suc (count - (n + 1)) = omega arith in
-      let f : n + 1 ≡ suc n = omega arith in
-      rw (e, f)
-
   module _ (h : n < count) (r : Row) (e : r ≡ rowAt w n) (b : Bool) (p : b ≡ (eqb (r .tag) t && ltb (r .kind) 3)) where
     pub this-row : b ≡ true → valueBy r ≡ valueIn t (rowsIn n (count - n) w)
     unfolding valueIn
-    this-row q = rw (one-row h, ← e, ← p, q)
+    this-row q = rw (rows-from w n count h, ← e, ← p, q)
 
     pub next-row : b ≡ false → valueIn t (rowsIn (n + 1) (count - (n + 1)) w) ≡ valueIn t (rowsIn n (count - n) w)
     unfolding valueIn
-    next-row q = rw (one-row h, ← e, ← p, q)
+    next-row q = rw (rows-from w n count h, ← e, ← p, q)
 
   pub no-row : count ≤ n → valueIn t (rowsIn n (count - n) w) ≡ Absent
-  unfolding valueIn rowsIn
-  no-row h = let e : count - n ≡ 0 = omega arith in rw e
+  unfolding valueIn
+  no-row h = rw (rows-none w n count h)
 
 -- what a row says is small enough to be added
 house-is-small : (t code : ℕ) (a : Answer ℤ) → toHouse t code ≡ a → Small (inHouse a)

@@ -1,8 +1,9 @@
 -- Demand 3, first half, over the tables: the same row for every item whose tag the smaller set knows, and a carried row for every other.
 -- Assumes nothing.
-use Prim.Native.Nat.{ℕ, zero, suc, _+_, _*_, _<_, _≤_}
+use Prim.Native.Nat.{ℕ, zero, suc, _+_, _-_, _*_, _<_, _≤_}
 use native.Mathlib.Omega.{arith}
 use native.Mathlib.Nat.{add-zero}
+use native.Mathlib.Numerals.{add-one}
 use mathlib.Core.Path.{_≡_, refl, ap, _∙_}
 use mathlib.Core.Bool.{true, false}
 use mathlib.Core.List.{List, [], _∷_, _++_}
@@ -73,6 +74,16 @@ all-rows K (i ∷ is) t k h =
 pub rows-in-table : (K : Knowing) (is : List Item) (t : List ℕ) (n : ℕ) → length is ≡ n → rowsIn 0 n (tableOf K is t) ≡ rowsOf K is
 rows-in-table K is t n e =
     rw (← e) (all-rows K is (tableOf K is t) 0 (λ j h. rw (let z : 0 + j ≡ j = omega arith in z) (row-in-table K is t j h)))
+
+-- of count rows those from the one numbered n on
+module _ (words : List ℕ) (n count : ℕ) where
+  pub rows-from : n < count → rowsIn n (count - n) words ≡ rowAt words n ∷ rowsIn (n + 1) (count - (n + 1)) words
+  unfolding rowsIn
+  rows-from h = let e : count - n ≡ suc (count - (n + 1)) = omega arith in rw (e, add-one)
+
+  pub rows-none : count ≤ n → rowsIn n (count - n) words ≡ []
+  unfolding rowsIn
+  rows-none h = let e : count - n ≡ 0 = omega arith in rw e
 
 -- what a receiver that answers a count has read: its set is good, its table long enough, and the table's rows are the items' own
 pub record HasRead (K : TagSet) (p t : List ℕ) (n : ℕ) : Type 0 where

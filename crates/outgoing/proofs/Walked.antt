@@ -2,9 +2,9 @@
 -- Assumes nothing.
 use Prim.Native.Nat.{ℕ, zero, suc, _+_, _-_, _*_, _<_, _≤_}
 use native.Mathlib.Omega.{arith}
-use mathlib.Core.Path.{_≡_, ap, _∙_}
+use mathlib.Core.Path.{_≡_, ap}
 use mathlib.Core.Bool.{true, false, cond}
-use mathlib.Core.List.{List, [], _∷_}
+use mathlib.Core.List.{List}
 use lib.ListN.{length}
 use lib.Dec.{ltb, eqb}
 use Rattle.base.specs.Cases.{byBool}
@@ -18,6 +18,7 @@ use Rattle.rows.specs.Kinds.{Row, shapeFor}
 use Rattle.rows.specs.Taken.{spotLength, rowGood, tagShown, rowAt}
 use Rattle.packet.specs.Pieces.{Piece}
 use Rattle.packet.specs.Judge.{Knowing, Fault, clean, wrong}
+use Rattle.laws.proofs.Tables.{rows-from, rows-none}
 use Rattle.packet.specs.Rows.{rowsIn}
 use Rattle.outgoing.specs.Outgoing.{goodFrom}
 use Rattle.outgoing.specs.declared.Packed.{Packed}
@@ -50,51 +51,39 @@ rows-small k (suc n) words =
     omega (arith, rows-small (suc k) n words, s .tag, s .head, s .value)
 
 module _ (words : List ℕ) (count n : ℕ) where
-  pub rows-end : count ≤ n → rowsIn n (count - n) words ≡ []
-  unfolding rowsIn
-  rows-end h = let e : count - n ≡ 0 = omega arith in rw e
-
   module _ (h : n < count) where
-    rest : List Row
+    abbrev rest : List Row
     rest = rowsIn (n + 1) (count - (n + 1)) words
 
-    rows-more : rowsIn n (count - n) words ≡ rowAt words n ∷ rest
-    unfolding rowsIn rest
-    rows-more =
-        let e : count - n ≡ suc (count - (n + 1)) = omega arith in
-        let s : suc n ≡ n + 1 = omega arith in
-        ap (λ m. rowsIn n m words) e ∙ ap (λ k. rowAt words n ∷ rowsIn k (count - (n + 1)) words) s
-
     pub size-more : rowsSize (rowsIn n (count - n) words) ≡ rowSize (rowAt words n) + rowsSize (rowsIn (n + 1) (count - (n + 1)) words)
-    unfolding rowsSize rest
-    size-more = rw rows-more
+    unfolding rowsSize
+    size-more = rw (rows-from words n count h)
 
     -- a row as the code has it
     module _ (r : Row) (same : r ≡ rowAt words n) where
       module _ (K : Knowing) (room : ℕ) (s : Shape) (shape : s ≡ shapeFor K (r .tag)) (o : Answer (List Piece)) where
         pub good-more : rowGood s room r ≡ true
             → goodFrom K room n (rowsIn n (count - n) words) o ≡ goodFrom K room (n + 1) (rowsIn (n + 1) (count - (n + 1)) words) o
-        unfolding goodFrom rest
+        unfolding goodFrom
         good-more g =
             let g′ : rowGood (shapeFor K (r .tag)) room r ≡ true = rw shape at g in
             let e : suc n ≡ n + 1 = omega arith in
-            rw (rows-more, ← same, g′) (ap (λ k. goodFrom K room k rest o) e)
+            rw (rows-from words n count h, ← same, g′) (ap (λ k. goodFrom K room k rest o) e)
 
         pub good-bad : rowGood s room r ≡ false → goodFrom K room n (rowsIn n (count - n) words) o ≡ refused 17 n (tagShown (r .tag))
         unfolding goodFrom
         good-bad g =
             let g′ : rowGood (shapeFor K (r .tag)) room r ≡ false = rw shape at g in
-            rw (rows-more, ← same, g′)
+            rw (rows-from words n count h, ← same, g′)
 
       module _ (K seen : TagSet) (size : Packed) where
         judged-by : (f : Fault) → f ≡ rowFault K seen r
             → rowsJudged K seen n (rowsIn n (count - n) words) size ≡ unlessFaulty f n (r .tag) (rowsJudged K (withTag seen (r .tag)) (n + 1) rest size)
         unfolding rowsJudged
-        judged-by f e = rw (rows-more, ← same, ← e)
+        judged-by f e = rw (rows-from words n count h, ← same, ← e)
 
         pub judged-more : clean ≡ rowFault K seen r
             → rowsJudged K seen n (rowsIn n (count - n) words) size ≡ rowsJudged K (withTag seen (r .tag)) (n + 1) (rowsIn (n + 1) (count - (n + 1)) words) size
-        unfolding rest
         judged-more e = judged-by clean e
 
         pub judged-wrong : (m : ℕ) → wrong m ≡ rowFault K seen r → rowsJudged K seen n (rowsIn n (count - n) words) size ≡ refused m n (r .tag)
@@ -102,13 +91,13 @@ module _ (words : List ℕ) (count n : ℕ) where
 
   pub size-end : count ≤ n → rowsSize (rowsIn n (count - n) words) ≡ 0
   unfolding rowsSize
-  size-end h = rw (rows-end h)
+  size-end h = rw (rows-none words n count h)
 
   pub good-end : (K : Knowing) (room : ℕ) (o : Answer (List Piece)) → count ≤ n → goodFrom K room n (rowsIn n (count - n) words) o ≡ o
   unfolding goodFrom
-  good-end K room o h = rw (rows-end h)
+  good-end K room o h = rw (rows-none words n count h)
 
   pub judged-end : (K seen : TagSet) (size : Packed) → count ≤ n
       → rowsJudged K seen n (rowsIn n (count - n) words) size ≡ cond (holds seen 65) (given size) (refused 15 0 0)
   unfolding rowsJudged
-  judged-end K seen size h = rw (rows-end h)
+  judged-end K seen size h = rw (rows-none words n count h)

@@ -3,7 +3,7 @@
 use Prim.Native.Nat.{ℕ, _*_, _≤_}
 use native.Mathlib.Omega.{arith}
 use mathlib.Core.Path.{_≡_, refl, ap, sym, _∙_}
-use mathlib.Core.List.{List, [], _∷_, _++_}
+use mathlib.Core.List.{List, _++_}
 use lib.ListN.{length, take, drop, length-append}
 use lib.Seq.{take-append-seam}
 use lib.Dec.{eqb, leb}
@@ -18,7 +18,7 @@ use Rattle.packet.specs.Pieces.{Item, pieces}
 use Rattle.packet.specs.Judge.{Knowing}
 use Rattle.packet.specs.Encode.{encode, canonical}
 use Rattle.packet.specs.Allowed.{Formed}
-use Rattle.packet.specs.Rows.{rowsIn, rowsOf, words, tableOf, piecesOf, readAnswer, readTable}
+use Rattle.packet.specs.Rows.{rowsIn, rowsOf, tableOf, piecesOf, readAnswer, readTable}
 use Rattle.laws.proofs.Accepted.{Accepts, accepts}
 use Rattle.laws.proofs.Structure.{structure-formed}
 use Rattle.laws.proofs.Written.{Sendable}
@@ -29,13 +29,9 @@ use Rattle.laws.proofs.Tables.{HasRead, has-read, rows-in-table}
 use Rattle.laws.proofs.Readings.{SameReading, sent-reading}
 use Rattle.outgoing.specs.Outgoing.{outgoing}
 use Rattle.outgoing.proofs.Given.{Sent, Outgoes, outgoes-given}
+use Rattle.reader.proofs.Laws.{words-length}
 use Rattle.writer.specs.Writes.{written, writeAnswer, writeOutput}
 use Rattle.relay.specs.Forwards.{ownTable, answerAfter, forwardAnswer, forwardOutput}
-
-words-length : (K : Knowing) (is : List Item) → length (words (rowsOf K is)) ≡ 4 * length is
-unfolding rowsOf words
-words-length K [] = refl
-words-length K (i ∷ is) = omega (arith, words-length K is)
 
 table-long : (K : Knowing) (is : List Item) (t : List ℕ) → 4 * length is ≤ length (tableOf K is t)
 unfolding tableOf

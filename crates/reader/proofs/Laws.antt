@@ -45,7 +45,7 @@ row-more K t n i is =
     let e : 4 * (n + 1) ≡ suc (suc (suc (suc (4 * n)))) = omega arith in
     rw e
 
-words-length : (K : ℕ → Bool) (is : List Item) → length (words (rowsOf K is)) ≡ 4 * length is
+pub words-length : (K : ℕ → Bool) (is : List Item) → length (words (rowsOf K is)) ≡ 4 * length is
 unfolding rowsOf words
 words-length K [] = refl
 words-length K (i ∷ is) = omega (arith, words-length K is)

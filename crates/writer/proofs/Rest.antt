@@ -1,9 +1,8 @@
 -- What the loop over the rows keeps: the rows that are left, and the output that they will make.
 -- Assumes nothing.
-use Prim.Native.Nat.{ℕ, suc, _+_, _-_, _<_, _≤_}
+use Prim.Native.Nat.{ℕ, _+_, _-_, _<_, _≤_}
 use native.Mathlib.Omega.{arith}
 use native.Mathlib.Nat.{sub-zero}
-use native.Mathlib.Numerals.{add-one}
 use mathlib.Core.Path.{_≡_, refl, ap, sym, _∙_}
 use mathlib.Core.Bool.{true}
 use mathlib.Core.List.{List, [], _∷_, _++_}
@@ -16,6 +15,7 @@ use Rattle.rows.specs.Taken.{rowAt, rowGood}
 use Rattle.packet.specs.Judge.{Knowing}
 use Rattle.packet.specs.Encode.{itemsBytes}
 use Rattle.packet.specs.Rows.{rowsIn, pieceOf, piecesOf}
+use Rattle.laws.proofs.Tables.{rows-from, rows-none}
 use Rattle.laws.proofs.Rows.{GoodRow}
 use Rattle.writer.specs.Putting.{rowBytes, tableBytes}
 
@@ -52,20 +52,6 @@ module _ (K : Knowing) (b o : List ℕ) (at : ℕ) (x : List ℕ) where
           room = rw (e, f, put-length o at (rowBytes (shapeFor K (r .tag)) b r) row-room) (omega (arith, sizes, l .room));
           stored = rw (e, f) (put-more o at (rowBytes (shapeFor K (r .tag)) b r) (bytesOfRows K b rs) (omega (arith, sizes, l .room))) ∙ (ap (putInto o at) (sym first-bytes) ∙ l .stored);
         }
-
--- the rows of a table from one on, in the words lent
-module _ (words : List ℕ) (n count : ℕ) where
-  rows-from : n < count → rowsIn n (count - n) words ≡ rowAt words n ∷ rowsIn (n + 1) (count - (n + 1)) words
-  unfolding rowsIn
-  rows-from h =
-      let e : count - n ≡ suc (count - (n + 1)) = omega arith in
-      rw (e, add-one)
-
-  rows-none : count ≤ n → rowsIn n (count - n) words ≡ []
-  unfolding rowsIn
-  rows-none h =
-      let e : count - n ≡ 0 = omega arith in
-      rw e
 
 module _ (K : Knowing) (b words : List ℕ) (count : ℕ) where
   pub all-left : (o : List ℕ) (from : ℕ) → Each (GoodRow K b) (rowsIn 0 count words) → from + length (tableBytes K b count words) ≤ length o
