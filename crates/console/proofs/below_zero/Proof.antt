@@ -1,4 +1,4 @@
--- `conversions::below_zero` meets its contract.
+-- `console::below_zero` meets its contract.
 -- Assumes nothing.
 use native.Mathlib.Omega.{arith}
 use borrow.Author.Needs.{needs}
@@ -7,9 +7,9 @@ use lib.IntN.{pos}
 use mir.Syntax.{w64}
 use mir.Val.{SFits}
 use mir.Facts.{toZ-ofZ}
-use Rattle.conversions.proofs.Below.{Below, is-below}
-use Rattle.conversions.proofs.below_zero.Statement.{statement}
-use Rattle.conversions.proofs.below_zero.Tie as tie
+use Rattle.console.proofs.Below.{Below, is-below}
+use Rattle.console.proofs.below_zero.Statement.{statement}
+use Rattle.console.proofs.below_zero.Tie as tie
 
 value-fits : (c : tie.Start) → SFits w64 (c .args .v)
 value-fits c = search needs
