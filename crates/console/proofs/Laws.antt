@@ -7,11 +7,15 @@ use native.Mathlib.Numerals.{add-one}
 use mathlib.Core.Path.{_≡_}
 use mathlib.Core.List.{List}
 use lib.ListN.{length, getD, drop}
-use borrow.Author.Tests.{lt-ltb, le-ltb}
+use borrow.Author.Tests.{lt-ltb, le-ltb, ne-eqb}
 use Rattle.base.specs.Parts.{cons-at, nil-at}
 use Rattle.console.specs.declared.Word.{Word}
 use Rattle.console.specs.declared.Word.the-variants.{Is, Not}
-use Rattle.console.specs.Word.{digitOf, wordFrom}
+use Rattle.console.specs.Word.{digitOf, wordFrom, wordOf}
+
+pub too-long : (l : List ℕ) → 16 < length l → wordOf l ≡ Not
+unfolding wordOf
+too-long l h = rw (ne-eqb (length l) 0 (λ e. omega arith), lt-ltb 16 (length l) h)
 
 module _ (l : List ℕ) (i high : ℕ) where
   pub word-end : length l ≤ i → wordFrom high (drop i l) ≡ Is high

@@ -7,7 +7,7 @@ use mathlib.Core.Path.{_≡_, sym, _∙_}
 use lib.ListN.{length, drop}
 use Rattle.base.specs.Cases.{cases}
 use Rattle.console.specs.Word.{digitOf, wordFrom, wordOf}
-use Rattle.console.proofs.Laws.{word-end, word-broken, word-goes-on, grows, fits}
+use Rattle.console.proofs.Laws.{too-long, word-end, word-broken, word-goes-on, grows, fits}
 use Rattle.console.proofs.word_of.Statement.{statement}
 use Rattle.console.proofs.word_of.Tie as tie
 
@@ -23,8 +23,7 @@ unfolding wordOf
 returns c = search cases
 
 returns-2 : tie.Need-returns-2 Inv-loop μ-loop
-unfolding wordOf
-returns-2 c = search cases
+returns-2 c = sym (too-long _ (omega arith))
 
 loop-holds : tie.Need-loop-holds Inv-loop μ-loop
 unfolding wordOf
