@@ -1,86 +1,49 @@
 // Runs the conversions on the standard's examples, on document 01's values and at the edges, and writes what they answer:
 // tag, code, value in house units and the code that the value gives back; or tag, value and code; or a refusal.
-ghost use mathlib.Core.Path.{_≡_};
-ghost use mathlib.Core.Bool.{true};
-ghost use lib.IntN.{pos, natAbs};
-ghost use lib.Signed.{ltZ};
-use refusal::Refusal;
+use console::decimal;
+use console::refused;
+use console::say;
+use console::signed;
+use libc::STDOUT_FILENO;
 use scale::ToCode;
 use scale::ToHouse;
 
-fn say(text: &[u8]) {
-    io::write_all(1, text);
-}
-
-fn decimal(n: u64) {
-    io::print_decimal(1, n);
-}
-
-// How far a value below zero is from zero, also the lowest.
-fn below_zero(v: i64) -> u64
-    requires { ⌜ ltZ v (pos 0) ≡ true ⌝ }
-    ensures { λ r. ⌜ r ≡ natAbs v ⌝ }
-{
-    let less = 0 - (v + 1);
-    (less as u64) + 1
-}
-
-fn whole(v: i64) {
-    if v < 0 {
-        say(b"-");
-        decimal(below_zero(v));
-    } else {
-        decimal(v as u64);
-    }
-}
-
-fn refused(r: Refusal) {
-    say(b"refused\t");
-    let reason = r.reason;
-    decimal(refusal::number_of(reason));
-    say(b"\t");
-    decimal(r.place as u64);
-    say(b"\t");
-    decimal(r.tag);
-    say(b"\n");
-}
-
 // The code of a value, in so many digits.
 fn coded(tag: u64, v: i64, digits: usize) {
-    say(b"\t");
+    say(STDOUT_FILENO, b"\t");
     match scale::to_code(tag, v) {
         ToCode::Is(c) => {
-            io::print_hex(1, c.code, digits);
-            say(b"\n");
+            io::print_hex(STDOUT_FILENO, c.code, digits);
+            say(STDOUT_FILENO, b"\n");
         }
-        ToCode::Refused(r) => refused(r),
+        ToCode::Refused(r) => refused(STDOUT_FILENO, r),
     }
 }
 
 fn value(tag: u64, v: i64, digits: usize) {
-    decimal(tag);
-    say(b"\t");
-    whole(v);
+    decimal(STDOUT_FILENO, tag);
+    say(STDOUT_FILENO, b"\t");
+    signed(STDOUT_FILENO, v);
     coded(tag, v, digits);
 }
 
 fn example(tag: u64, code: u64, digits: usize) {
-    decimal(tag);
-    say(b"\t");
-    io::print_hex(1, code, digits);
-    say(b"\t");
+    decimal(STDOUT_FILENO, tag);
+    say(STDOUT_FILENO, b"\t");
+    io::print_hex(STDOUT_FILENO, code, digits);
+    say(STDOUT_FILENO, b"\t");
     match scale::to_house(tag, code) {
         ToHouse::Is(h) => {
             let v = h.value;
-            whole(v);
+            signed(STDOUT_FILENO, v);
             coded(tag, v, digits);
         }
-        ToHouse::Refused(r) => refused(r),
+        ToHouse::Refused(r) => refused(STDOUT_FILENO, r),
     }
 }
 
 fn examples_to_14() {
-    say(b"examples\n");
+    say(STDOUT_FILENO, b"examples\n");
     // L900-901
     example(5, 0x71C2, 4);
     // L929
@@ -202,7 +165,7 @@ fn examples_from_82() {
 }
 
 fn printed_offsets() {
-    say(b"printed values\n");
+    say(STDOUT_FILENO, b"printed values\n");
     // L1490-1491, 0.0136602540, bytes 1750
     value(26, 136_603, 4);
     // L1523, 0.0036602540, bytes 063F
@@ -241,7 +204,7 @@ fn printed_corners() {
 }
 
 fn document_01() {
-    say(b"document 01\n");
+    say(STDOUT_FILENO, b"document 01\n");
     example(18, 0x724A0A20, 8);
     example(19, 0x87F84B86, 8);
     example(21, 0x03830926, 8);
@@ -259,7 +222,7 @@ fn document_01() {
 }
 
 fn edges_of_codes() {
-    say(b"edges\n");
+    say(STDOUT_FILENO, b"edges\n");
     example(18, 0x00000000, 8);
     example(18, 0x00000001, 8);
     example(18, 0xFFFFFFFE, 8);
@@ -334,7 +297,7 @@ fn edges_of_signed() {
 }
 
 fn no_scale() {
-    say(b"refusals\n");
+    say(STDOUT_FILENO, b"refusals\n");
     example(0, 0x00, 2);
     example(1, 0x00, 2);
     example(2, 0x00, 2);

@@ -1,34 +1,29 @@
 // Runs the leaves on document 01's worked values and at the edges around them, and writes what they answer.
 use catalogue::Shape;
+use console::decimal;
+use console::say;
+use libc::STDOUT_FILENO;
 use tagset::TagSet;
 
-fn say(text: &[u8]) {
-    io::write_all(1, text);
-}
-
-fn decimal(n: u64) {
-    io::print_decimal(1, n);
-}
-
 fn line(n: u64) {
-    decimal(n);
-    say(b"\n");
+    decimal(STDOUT_FILENO, n);
+    say(STDOUT_FILENO, b"\n");
 }
 
 // A number and how many bytes it took, or that it is broken.
 fn show(field: ber::Field) {
     match field {
         ber::Field::Is { value, size } => {
-            decimal(value);
-            say(b" in ");
+            decimal(STDOUT_FILENO, value);
+            say(STDOUT_FILENO, b" in ");
             line(size as u64);
         }
-        ber::Field::Broken => say(b"broken\n"),
+        ber::Field::Broken => say(STDOUT_FILENO, b"broken\n"),
     }
 }
 
 fn tags() {
-    say(b"tags\n");
+    say(STDOUT_FILENO, b"tags\n");
     show(ber::tag_at(b"\x81\x00", 0));
     show(ber::tag_at(b"\x80\x05", 0));
     show(ber::tag_at(b"\x00", 0));
@@ -45,7 +40,7 @@ fn tags() {
 }
 
 fn lengths() {
-    say(b"lengths\n");
+    say(STDOUT_FILENO, b"lengths\n");
     show(ber::length_at(b"\x7F", 0));
     show(ber::length_at(b"\x81\x7F", 0));
     show(ber::length_at(b"\x80\x01", 0));
@@ -61,11 +56,11 @@ fn bytes(out: &[u8; 8], n: usize) {
     let mut i = 0;
     while i < 8 {
         if i < n {
-            io::print_hex(1, number::wide(out[i]), 2);
+            io::print_hex(STDOUT_FILENO, number::wide(out[i]), 2);
         }
         i += 1;
     }
-    say(b"\n");
+    say(STDOUT_FILENO, b"\n");
 }
 
 fn put_tag(tag: u64) {
@@ -81,7 +76,7 @@ fn put_length(x: u64) {
 }
 
 fn written() {
-    say(b"tags written\n");
+    say(STDOUT_FILENO, b"tags written\n");
     put_tag(0);
     put_tag(1);
     put_tag(127);
@@ -90,7 +85,7 @@ fn written() {
     put_tag(16384);
     put_tag(2097151);
     put_tag(2097152);
-    say(b"lengths written\n");
+    say(STDOUT_FILENO, b"lengths written\n");
     put_length(0);
     put_length(127);
     put_length(128);
@@ -105,7 +100,7 @@ fn written() {
 }
 
 fn sums() {
-    say(b"checksums\n");
+    say(STDOUT_FILENO, b"checksums\n");
     line(checksum::checksum(b"") as u64);
     line(checksum::checksum(b"\x01") as u64);
     line(checksum::checksum(b"\x01\x02") as u64);
@@ -118,24 +113,24 @@ fn sums() {
 }
 
 fn shape(column: &[u8; 128], tag: u64) {
-    decimal(tag);
+    decimal(STDOUT_FILENO, tag);
     match catalogue::shape_at(column, tag) {
-        Shape::Text => say(b" text\n"),
+        Shape::Text => say(STDOUT_FILENO, b" text\n"),
         Shape::Number { width, marked } => {
-            say(b" number of ");
-            decimal(width as u64);
+            say(STDOUT_FILENO, b" number of ");
+            decimal(STDOUT_FILENO, width as u64);
             if marked {
-                say(b" with a mark\n");
+                say(STDOUT_FILENO, b" with a mark\n");
             } else {
-                say(b"\n");
+                say(STDOUT_FILENO, b"\n");
             }
         }
-        Shape::Absent => say(b" carried\n"),
+        Shape::Absent => say(STDOUT_FILENO, b" carried\n"),
     }
 }
 
 fn shapes() {
-    say(b"shapes\n");
+    say(STDOUT_FILENO, b"shapes\n");
     let column = catalogue::shapes();
     let mut tag: u64 = 0;
     while tag < 131 {
@@ -146,14 +141,14 @@ fn shapes() {
 
 fn answer(yes: bool) {
     if yes {
-        say(b"yes\n");
+        say(STDOUT_FILENO, b"yes\n");
     } else {
-        say(b"no\n");
+        say(STDOUT_FILENO, b"no\n");
     }
 }
 
 fn sets() {
-    say(b"knowing sets\n");
+    say(STDOUT_FILENO, b"knowing sets\n");
     answer(knowing::is_good(TagSet { low: 6, high: 2 }));
     answer(knowing::is_good(catalogue::all_tags()));
     answer(knowing::is_good(TagSet { low: 6, high: 0 }));

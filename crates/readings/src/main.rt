@@ -2,59 +2,41 @@
 // of check and of read the row count or a refusal, then each row's four words; of a row taken out singly what it holds.
 ghost use Prim.Native.Nat.{_<_, _≤_};
 ghost use lib.ListN.{length};
+use console::decimal;
+use console::field;
+use console::refused;
+use console::say;
+use libc::STDOUT_FILENO;
 use packet::Checked;
 use reader::Reading;
-use refusal::Refusal;
 use rows::Content;
 use rows::Taken;
 use tagset::TagSet;
 
-fn say(text: &[u8]) {
-    io::write_all(1, text);
-}
-
-fn decimal(n: u64) {
-    io::print_decimal(1, n);
-}
-
-fn field(n: u64) {
-    say(b"\t");
-    decimal(n);
-}
-
-fn refused(r: Refusal) {
-    let reason = r.reason;
-    say(b"refused");
-    field(refusal::number_of(reason));
-    field(r.place as u64);
-    field(r.tag);
-    say(b"\n");
-}
-
 fn accepted_with(count: usize) {
-    say(b"accepted");
-    field(count as u64);
-    say(b"\n");
+    say(STDOUT_FILENO, b"accepted");
+    field(STDOUT_FILENO, count as u64);
+    say(STDOUT_FILENO, b"\n");
 }
 
 fn checked(packet: &[u8], known: TagSet) {
-    say(b"check\t");
+    say(STDOUT_FILENO, b"check\t");
     match packet::check(packet, known) {
         Checked::Accepted(accepted) => accepted_with(accepted.count),
-        Checked::Refused(r) => refused(r),
+        Checked::Refused(r) => refused(STDOUT_FILENO, r),
     }
 }
 
 // How many rows there are to write: none after a refusal.
 fn answered(answer: Reading) -> usize {
-    say(b"read\t");
+    say(STDOUT_FILENO, b"read\t");
     match answer {
         Reading::Rows(filled) => {
             accepted_with(filled.count);
             filled.count
         }
         Reading::Refused(r) => {
-            refused(r);
+            refused(STDOUT_FILENO, r);
             0
         }
     }
@@ -64,11 +46,11 @@ fn row_words(table: &[u64; 520], n: usize)
     requires { ⌜ n < 128 ⌝ }
 {
     let at = 4 * n;
-    decimal(table[at]);
-    field(table[at + 1]);
-    field(table[at + 2]);
-    field(table[at + 3]);
-    say(b"\n");
+    decimal(STDOUT_FILENO, table[at]);
+    field(STDOUT_FILENO, table[at + 1]);
+    field(STDOUT_FILENO, table[at + 2]);
+    field(STDOUT_FILENO, table[at + 3]);
+    say(STDOUT_FILENO, b"\n");
 }
 
 fn rows_of(table: &[u64; 520], count: usize) {
@@ -82,8 +64,8 @@ fn rows_of(table: &[u64; 520], count: usize) {
 }
 
 fn reading(title: &[u8], packet: &[u8], known: TagSet) {
-    say(title);
-    say(b"\n");
+    say(STDOUT_FILENO, title);
+    say(STDOUT_FILENO, b"\n");
     checked(packet, known);
     let mut table = [7u64; 520];
     let answer = reader::read(packet, known, &mut table);
@@ -463,14 +445,14 @@ fn known_items() {
 // The only way to refusal 2.
 fn short_table(title: &[u8], packet: &[u8], known: TagSet) {
     let mut table = [7u64; 511];
-    say(title);
-    say(b"\n");
+    say(STDOUT_FILENO, title);
+    say(STDOUT_FILENO, b"\n");
     let answer = reader::read(packet, known, &mut table);
     answered(answer);
-    say(b"table");
-    field(table[0]);
-    field(table[510]);
-    say(b"\n");
+    say(STDOUT_FILENO, b"table");
+    field(STDOUT_FILENO, table[0]);
+    field(STDOUT_FILENO, table[510]);
+    say(STDOUT_FILENO, b"\n");
 }
 
 fn short_tables() {
@@ -493,20 +475,20 @@ fn short_tables() {
 
 // Words of the first three rows, of the rest of the first 512, and past them.
 fn some_words(table: &[u64; 520]) {
-    say(b"table");
-    field(table[0]);
-    field(table[1]);
-    field(table[11]);
-    field(table[12]);
-    field(table[511]);
-    field(table[512]);
-    field(table[519]);
-    say(b"\n");
+    say(STDOUT_FILENO, b"table");
+    field(STDOUT_FILENO, table[0]);
+    field(STDOUT_FILENO, table[1]);
+    field(STDOUT_FILENO, table[11]);
+    field(STDOUT_FILENO, table[12]);
+    field(STDOUT_FILENO, table[511]);
+    field(STDOUT_FILENO, table[512]);
+    field(STDOUT_FILENO, table[519]);
+    say(STDOUT_FILENO, b"\n");
 }
 
 // A refusal, an acceptance and a refusal again, on one table of sevens, so that a word that stays is seen.
 fn lent_words() {
-    say(b"the words of a table\n");
+    say(STDOUT_FILENO, b"the words of a table\n");
     let mut table = [7u64; 520];
     some_words(&table);
     let known = catalogue::all_tags();
@@ -532,28 +514,28 @@ fn lent_words() {
 fn held(tag: u64, content: Content) {
     match content {
         Content::Reading(code) => {
-            say(b"reading");
-            field(tag);
-            field(code);
+            say(STDOUT_FILENO, b"reading");
+            field(STDOUT_FILENO, tag);
+            field(STDOUT_FILENO, code);
         }
         Content::Mark => {
-            say(b"mark");
-            field(tag);
+            say(STDOUT_FILENO, b"mark");
+            field(STDOUT_FILENO, tag);
         }
         Content::Text(part) => {
-            say(b"text");
-            field(tag);
-            field(part.place as u64);
-            field(part.length as u64);
+            say(STDOUT_FILENO, b"text");
+            field(STDOUT_FILENO, tag);
+            field(STDOUT_FILENO, part.place as u64);
+            field(STDOUT_FILENO, part.length as u64);
         }
         Content::Carried(part) => {
-            say(b"carried");
-            field(tag);
-            field(part.place as u64);
-            field(part.length as u64);
+            say(STDOUT_FILENO, b"carried");
+            field(STDOUT_FILENO, tag);
+            field(STDOUT_FILENO, part.place as u64);
+            field(STDOUT_FILENO, part.length as u64);
         }
     }
-    say(b"\n");
+    say(STDOUT_FILENO, b"\n");
 }
 
 fn taken(words: &[u64], count: usize, n: usize, known: TagSet, buffer: &[u8]) {
@@ -562,7 +544,7 @@ fn taken(words: &[u64], count: usize, n: usize, known: TagSet, buffer: &[u8]) {
             let content = row.content;
             held(row.tag, content);
         }
-        Taken::Refused(r) => refused(r),
+        Taken::Refused(r) => refused(STDOUT_FILENO, r),
     }
 }
 
@@ -582,12 +564,12 @@ fn taken_rows(table: &[u64; 520], packet: &[u8]) {
 fn taken_otherwise(table: &[u64; 520], packet: &[u8]) {
     let all = catalogue::all_tags();
     let least = TagSet { low: 6, high: 2 };
-    say(b"rows taken by other receivers\n");
+    say(STDOUT_FILENO, b"rows taken by other receivers\n");
     taken(table, 6, 0, TagSet { low: 6, high: 0 }, packet);
     taken(table, 6, 3, least, packet);
     taken(table, 6, 4, least, packet);
     taken(table, 6, 1, least, packet);
-    say(b"rows taken with other counts and buffers\n");
+    say(STDOUT_FILENO, b"rows taken with other counts and buffers\n");
     taken(table, 129, 0, all, packet);
     taken(table, 128, 0, all, packet);
     let eight = [2, 1, 1, 0x13_0008, 65, 1, 17, 0x1D_0001];
@@ -598,7 +580,7 @@ fn taken_otherwise(table: &[u64; 520], packet: &[u8]) {
 }
 
 fn taken_from(packet: &[u8]) {
-    say(b"rows taken from a table\n");
+    say(STDOUT_FILENO, b"rows taken from a table\n");
     let mut table = [7u64; 520];
     let answer = reader::read(packet, catalogue::all_tags(), &mut table);
     answered(answer);
@@ -613,7 +595,7 @@ fn row(tag: u64, kind: u64, code: u64, spot: u64) {
 }
 
 fn single_rows() {
-    say(b"rows one by one\n");
+    say(STDOUT_FILENO, b"rows one by one\n");
     // Tags within and outside 1 to 2,097,151.
     row(0, 4, 0, 0);
     row(2097151, 4, 0, 0);

@@ -1,0 +1,48 @@
+-- `writings::cases` meets its contract.
+-- Assumes nothing.
+use Prim.Native.Nat.{_≤_, _-_}
+use lib.ListN.{length}
+use borrow.Author.Needs.{needs}
+use Rattle.writings.proofs.cases.Statement.{statement}
+use Rattle.writings.proofs.cases.Tie as tie
+
+abbrev Inv-loop : tie.InvT-loop
+Inv-loop input at₀ at = at ≤ length input
+
+abbrev μ-loop : tie.MeasureT-loop
+μ-loop input at₀ at = length input - at
+
+word-start-requires : tie.Need-word-start-requires Inv-loop μ-loop
+word-start-requires c κs = search needs
+
+loop-holds : tie.Need-loop-holds Inv-loop μ-loop
+loop-holds c = search needs
+
+case-requires : tie.Need-case-requires Inv-loop μ-loop
+case-requires c κs = search needs
+
+word-start-requires-2 : tie.Need-word-start-requires-2 Inv-loop μ-loop
+word-start-requires-2 c κs = search needs
+
+loop-less : tie.Need-loop-less Inv-loop μ-loop
+loop-less c = search needs
+
+loop-again : tie.Need-loop-again Inv-loop μ-loop
+loop-again c = search needs
+
+returns : tie.Need-returns Inv-loop μ-loop
+returns c = search needs
+
+pub cases-spec : {M : Type 1} → statement M
+cases-spec =
+    tie.close
+    (tie.spec
+    Inv-loop
+    μ-loop
+    word-start-requires
+    loop-holds
+    case-requires
+    word-start-requires-2
+    loop-less
+    loop-again
+    returns)

@@ -1,0 +1,69 @@
+-- `writings::words_lent` meets its contract.
+-- Assumes nothing.
+use Prim.Native.Nat.{_≤_, _-_}
+use mathlib.Core.Path.{_≡_}
+use lib.ListN.{length}
+use borrow.Author.Needs.{needs}
+use Rattle.writings.proofs.words_lent.Statement.{statement}
+use Rattle.writings.proofs.words_lent.Tie as tie
+
+abbrev Inv-loop : tie.InvT-loop
+Inv-loop input from words₀ said next₀ i₀ words next i = (length words ≡ length words₀) × (i ≤ length words₀) × (from ≤ next) × (next ≤ length input)
+
+abbrev μ-loop : tie.MeasureT-loop
+μ-loop input from words₀ said next₀ i₀ words next i = length words₀ - i
+
+token-at-requires : tie.Need-token-at-requires Inv-loop μ-loop
+token-at-requires c κs = search needs
+
+loop-holds : tie.Need-loop-holds Inv-loop μ-loop
+loop-holds c = search needs
+
+same-length : tie.Need-same-length Inv-loop μ-loop
+same-length c = search needs
+
+returns : tie.Need-returns Inv-loop μ-loop
+returns c = search needs
+
+token-at-requires-2 : tie.Need-token-at-requires-2 Inv-loop μ-loop
+token-at-requires-2 c κs = search needs
+
+mul-words : tie.Need-mul-words Inv-loop μ-loop
+mul-words c = search needs
+
+slice-write-words : tie.Need-slice-write-words Inv-loop μ-loop
+slice-write-words c = search needs
+
+add-i : tie.Need-add-i Inv-loop μ-loop
+add-i c = search needs
+
+loop-less : tie.Need-loop-less Inv-loop μ-loop
+loop-less c = search needs
+
+loop-again : tie.Need-loop-again Inv-loop μ-loop
+loop-again c = search needs
+
+same-length-2 : tie.Need-same-length-2 Inv-loop μ-loop
+same-length-2 c = search needs
+
+returns-2 : tie.Need-returns-2 Inv-loop μ-loop
+returns-2 c = search needs
+
+pub words-lent-spec : {M : Type 1} → statement M
+words-lent-spec =
+    tie.close
+    (tie.spec
+    Inv-loop
+    μ-loop
+    token-at-requires
+    loop-holds
+    same-length
+    returns
+    token-at-requires-2
+    mul-words
+    slice-write-words
+    add-i
+    loop-less
+    loop-again
+    same-length-2
+    returns-2)

@@ -1,0 +1,177 @@
+// Runs the writer on the tables from standard input, and writes what it answers: the packet's size or the refusal, and then the whole
+// output lent, which was filled with EE, so that a byte that stays is seen.
+// A case is a line that begins with #, its title, and then words in hexadecimal: the two of the knowing set, the size of the output,
+// the row count, the number of words lent and those words, the number of bytes in the buffer and those bytes. The input has at most
+// 65,536 bytes, a case at most 1,024 words and as many bytes.
+ghost use Prim.Native.Nat.{_<_, _≤_};
+ghost use lib.ListN.{length};
+use console::Word;
+use console::field;
+use console::refused;
+use console::say;
+use console::word_of;
+use libc::STDIN_FILENO;
+use libc::STDOUT_FILENO;
+use tagset::TagSet;
+use writer::Writing;
+
+// The first place from here on that holds a byte of this range; else the end.
+fn place_of(input: &[u8], from: usize, least: u8, most: u8) -> usize
+    requires { ⌜ from ≤ length (now input) ⌝ }
+    ensures { λ r. ⌜ (from ≤ r) × (r ≤ length (now (input .entry))) ⌝ }
+{
+    let mut at = from;
+    while at < input.len() {
+        let byte = input[at];
+        if least <= byte {
+            if byte <= most {
+                return at;
+            }
+        }
+        at += 1;
+    }
+    at
+}
+
+fn word_start(input: &[u8], from: usize) -> usize
+    requires { ⌜ from ≤ length (now input) ⌝ }
+    ensures { λ r. ⌜ (from ≤ r) × (r ≤ length (now (input .entry))) ⌝ }
+{
+    place_of(input, from, b'!', 255)
+}
+
+// A word's value, and the place after it.
+struct Token {
+    value: u64,
+    next: usize,
+}
+
+// What is no word counts as 0.
+fn token_at(input: &[u8], from: usize) -> Token
+    requires { ⌜ from ≤ length (now input) ⌝ }
+    ensures { λ r. ⌜ (from ≤ r .next) × (r .next ≤ length (now (input .entry))) ⌝ }
+{
+    let start = word_start(input, from);
+    let end = place_of(input, start, 0, b' ');
+    match word_of(&input[start..end]) {
+        Word::Is(value) => Token { value, next: end },
+        Word::Not => Token {
+            value: 0,
+            next: end,
+        },
+    }
+}
+
+// How many words or bytes were lent, and the place after them.
+struct Lent {
+    count: usize,
+    next: usize,
+}
+
+// A number, and then so many words, as far as there is room.
+fn words_lent(input: &[u8], from: usize, words: &mut [u64]) -> Lent
+    requires { ⌜ from ≤ length (now input) ⌝ }
+    ensures { λ r. ⌜ (r .count ≤ length (now (words .exit))) × (from ≤ r .next) × (r .next ≤ length (now (input .entry))) ⌝ }
+{
+    let said = token_at(input, from);
+    let mut next = said.next;
+    let mut i: usize = 0;
+    while i < words.len() {
+        if said.value <= i as u64 {
+            return Lent { count: i, next };
+        }
+        let word = token_at(input, next);
+        words[i] = word.value;
+        next = word.next;
+        i += 1;
+    }
+    Lent { count: i, next }
+}
+
+// The lowest byte of each word.
+fn narrowed(words: &[u64; 1024], bytes: &mut [u8])
+    requires { ⌜ length (now bytes) ≤ 1024 ⌝ }
+{
+    let mut i = 0;
+    while i < bytes.len() {
+        bytes[i] = (words[i] % 256) as u8;
+        i += 1;
+    }
+}
+
+fn written(known: TagSet, count: usize, words: &[u64], buffer: &[u8], out: &mut [u8]) {
+    match writer::write(known, count, words, buffer, out) {
+        Writing::Packet(packet) => {
+            say(STDOUT_FILENO, b"packet");
+            field(STDOUT_FILENO, packet.size as u64);
+            say(STDOUT_FILENO, b"\n");
+        }
+        Writing::Refused(r) => refused(STDOUT_FILENO, r),
+    }
+    console::bytes(STDOUT_FILENO, out);
+    say(STDOUT_FILENO, b"\n");
+}
+
+// Lends an output of the size that the case gives. There is room for 8,200 bytes: a case that asks for more gets no answer.
+fn written_within(known: TagSet, size: u64, count: usize, words: &[u64], buffer: &[u8]) {
+    let mut out = [0xEEu8; 8200];
+    if size <= 8200 {
+        let end = size as usize;
+        written(known, count, words, buffer, &mut out[..end]);
+    }
+}
+
+// The words of a case, from after its title to its end.
+fn tried(input: &[u8], from: usize) -> usize
+    requires { ⌜ from ≤ length (now input) ⌝ }
+    ensures { λ r. ⌜ (from ≤ r) × (r ≤ length (now (input .entry))) ⌝ }
+{
+    let low = token_at(input, from);
+    let high = token_at(input, low.next);
+    let size = token_at(input, high.next);
+    let count = token_at(input, size.next);
+    let mut words = [0u64; 1024];
+    let table = words_lent(input, count.next, &mut words);
+    let mut wide = [0u64; 1024];
+    let buffer = words_lent(input, table.next, &mut wide);
+    let mut bytes = [0u8; 1024];
+    narrowed(&wide, &mut bytes);
+    let lent = table.count;
+    let held = buffer.count;
+    written_within(
+        TagSet {
+            low: low.value,
+            high: high.value,
+        },
+        size.value,
+        count.value as usize,
+        &words[..lent],
+        &bytes[..held],
+    );
+    buffer.next
+}
+
+// One case, and the place after it.
+fn case(input: &[u8], at: usize) -> usize
+    requires { ⌜ at < length (now input) ⌝ }
+    ensures { λ r. ⌜ (at < r) × (r ≤ length (now (input .entry))) ⌝ }
+{
+    let end = place_of(input, at + 1, b'\n', b'\n');
+    say(STDOUT_FILENO, &input[at..end]);
+    say(STDOUT_FILENO, b"\n");
+    tried(input, end)
+}
+
+fn cases(input: &[u8]) {
+    let mut at = word_start(input, 0);
+    while at < input.len() {
+        let next = case(input, at);
+        at = word_start(input, next);
+    }
+}
+
+fn main() {
+    let mut input = io::large_buffer();
+    let n = io::read_full(STDIN_FILENO, &mut input);
+    cases(&input[..n]);
+}
