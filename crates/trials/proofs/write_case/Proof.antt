@@ -1,10 +1,10 @@
--- `writings::tried` meets its contract.
+-- `trials::write_case` meets its contract.
 -- Assumes nothing.
 use mathlib.Core.Path.{sym}
-use lib.Seq.{length-take-le}
 use borrow.Author.Needs.{needs}
-use Rattle.writings.proofs.tried.Statement.{statement}
-use Rattle.writings.proofs.tried.Tie as tie
+use lib.Seq.{length-take-le}
+use Rattle.trials.proofs.write_case.Statement.{statement}
+use Rattle.trials.proofs.write_case.Tie as tie
 
 token-at-requires : tie.Need-token-at-requires
 token-at-requires c κs = search needs
@@ -24,17 +24,11 @@ slice-aggregate-words-lent c = search needs
 words-lent-requires : tie.Need-words-lent-requires
 words-lent-requires c κs = search needs
 
-slice-aggregate-words-lent-2 : tie.Need-slice-aggregate-words-lent-2
-slice-aggregate-words-lent-2 c = search needs
+slice-aggregate-bytes-lent : tie.Need-slice-aggregate-bytes-lent
+slice-aggregate-bytes-lent c = search needs
 
-words-lent-requires-2 : tie.Need-words-lent-requires-2
-words-lent-requires-2 c κs = search needs
-
-slice-aggregate-narrowed : tie.Need-slice-aggregate-narrowed
-slice-aggregate-narrowed c = search needs
-
-narrowed-requires : tie.Need-narrowed-requires
-narrowed-requires c κs = search needs
+bytes-lent-requires : tie.Need-bytes-lent-requires
+bytes-lent-requires c κs = search needs
 
 array-share-prefix-words : tie.Need-array-share-prefix-words
 array-share-prefix-words c = search needs
@@ -54,8 +48,8 @@ written-within-requires c κs = search needs
 returns : tie.Need-returns
 returns c = search needs
 
-pub tried-spec : {M : Type 1} → statement M
-tried-spec =
+pub write-case-spec : {M : Type 1} → statement M
+write-case-spec =
     tie.close
     (tie.spec
     token-at-requires
@@ -64,10 +58,8 @@ tried-spec =
     token-at-requires-4
     slice-aggregate-words-lent
     words-lent-requires
-    slice-aggregate-words-lent-2
-    words-lent-requires-2
-    slice-aggregate-narrowed
-    narrowed-requires
+    slice-aggregate-bytes-lent
+    bytes-lent-requires
     array-share-prefix-words
     slice-aggregate-written-within
     array-share-prefix-bytes

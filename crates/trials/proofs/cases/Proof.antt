@@ -1,10 +1,10 @@
--- `writings::cases` meets its contract.
+-- `trials::cases` meets its contract.
 -- Assumes nothing.
 use Prim.Native.Nat.{_≤_, _-_}
-use lib.ListN.{length}
 use borrow.Author.Needs.{needs}
-use Rattle.writings.proofs.cases.Statement.{statement}
-use Rattle.writings.proofs.cases.Tie as tie
+use lib.ListN.{length}
+use Rattle.trials.proofs.cases.Statement.{statement}
+use Rattle.trials.proofs.cases.Tie as tie
 
 abbrev Inv-loop : tie.InvT-loop
 Inv-loop input at₀ at = at ≤ length input

@@ -1,11 +1,11 @@
--- `writings::words_lent` meets its contract.
+-- `trials::words_lent` meets its contract.
 -- Assumes nothing.
 use Prim.Native.Nat.{_≤_, _-_}
 use mathlib.Core.Path.{_≡_}
-use lib.ListN.{length}
 use borrow.Author.Needs.{needs}
-use Rattle.writings.proofs.words_lent.Statement.{statement}
-use Rattle.writings.proofs.words_lent.Tie as tie
+use lib.ListN.{length}
+use Rattle.trials.proofs.words_lent.Statement.{statement}
+use Rattle.trials.proofs.words_lent.Tie as tie
 
 abbrev Inv-loop : tie.InvT-loop
 Inv-loop input from words₀ said next₀ i₀ words next i = (length words ≡ length words₀) × (i ≤ length words₀) × (from ≤ next) × (next ≤ length input)

@@ -1,10 +1,10 @@
--- `writings::place_of` meets its contract.
+-- `trials::place_of` meets its contract.
 -- Assumes nothing.
 use Prim.Native.Nat.{_≤_, _-_}
-use lib.ListN.{length}
 use borrow.Author.Needs.{needs}
-use Rattle.writings.proofs.place_of.Statement.{statement}
-use Rattle.writings.proofs.place_of.Tie as tie
+use lib.ListN.{length}
+use Rattle.trials.proofs.place_of.Statement.{statement}
+use Rattle.trials.proofs.place_of.Tie as tie
 
 abbrev Inv-loop : tie.InvT-loop
 Inv-loop input from least most at₀ at = (from ≤ at) × (at ≤ length input)

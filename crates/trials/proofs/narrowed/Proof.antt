@@ -1,17 +1,17 @@
--- `writings::narrowed` meets its contract.
+-- `trials::narrowed` meets its contract.
 -- Assumes nothing.
-use Prim.Native.Nat.{_≤_, _-_}
+use Prim.Native.Nat.{_-_, _≤_}
 use mathlib.Core.Path.{_≡_}
-use lib.ListN.{length}
 use borrow.Author.Needs.{needs}
-use Rattle.writings.proofs.narrowed.Statement.{statement}
-use Rattle.writings.proofs.narrowed.Tie as tie
+use lib.ListN.{length}
+use Rattle.trials.proofs.narrowed.Statement.{statement}
+use Rattle.trials.proofs.narrowed.Tie as tie
 
 abbrev Inv-loop : tie.InvT-loop
-Inv-loop words bytes₀ i₀ bytes i = (length bytes ≡ length bytes₀) × (i ≤ length bytes₀)
+Inv-loop words bytes₀ i₀ bytes i = (i ≤ 1024) × (length bytes ≡ 1024)
 
 abbrev μ-loop : tie.MeasureT-loop
-μ-loop words bytes₀ i₀ bytes i = length bytes₀ - i
+μ-loop words bytes₀ i₀ bytes i = 1024 - i
 
 loop-holds : tie.Need-loop-holds Inv-loop μ-loop
 loop-holds c = search needs

@@ -1,10 +1,10 @@
--- `writings::written_within` meets its contract.
+-- `trials::written_within` meets its contract.
 -- Assumes nothing.
 use mathlib.Core.Path.{sym}
-use lib.Seq.{length-take-le}
 use borrow.Author.Needs.{needs}
-use Rattle.writings.proofs.written_within.Statement.{statement}
-use Rattle.writings.proofs.written_within.Tie as tie
+use lib.Seq.{length-take-le}
+use Rattle.trials.proofs.written_within.Statement.{statement}
+use Rattle.trials.proofs.written_within.Tie as tie
 
 array-borrow-prefix-out : tie.Need-array-borrow-prefix-out
 array-borrow-prefix-out c = search needs

@@ -1,15 +1,20 @@
-// Runs the writer on the tables from standard input, and writes what it answers: the packet's size or the refusal, and then the whole
-// output lent, which was filled with EE, so that a byte that stays is seen.
-// A case is a line that begins with #, its title, and then words in hexadecimal: the two of the knowing set, the size of the output,
-// the row count, the number of words lent and those words, the number of bytes in the buffer and those bytes. The input has at most
-// 65,536 bytes, a case at most 1,024 words and as many bytes.
+// Runs the library on the cases from standard input, and writes what it answers. A case is a title, a line whose first byte says what is
+// run, and then words in hexadecimal, parted by blanks or ends of lines. Lists are lent as their number and then their entries.
+// #: the writer. The two words of the knowing set, the size of the output, the row count, the table's words, the buffer's bytes. After the
+//    answer the whole output is written, which was filled with EE, so that a byte that stays is seen.
+// @: heights and corners. The two words of the knowing set, the packet's bytes. Corners are asked for k from 0 to 5 and 2^64 - 1.
+// The input has at most 262,144 bytes, a list at most 1,024 entries.
+ghost use mathlib.Core.Path.{_≡_};
 ghost use Prim.Native.Nat.{_<_, _≤_};
 ghost use lib.ListN.{length};
 use console::Word;
 use console::field;
 use console::refused;
 use console::say;
+use console::signed;
 use console::word_of;
+use ground::Corner;
+use ground::Height;
 use libc::STDIN_FILENO;
 use libc::STDOUT_FILENO;
 use tagset::TagSet;
@@ -90,10 +95,10 @@ fn words_lent(input: &[u8], from: usize, words: &mut [u64]) -> Lent
 
 // The lowest byte of each word.
 fn narrowed(words: &[u64; 1024], bytes: &mut [u8])
-    requires { ⌜ length (now bytes) ≤ 1024 ⌝ }
+    requires { ⌜ length (now bytes) ≡ 1024 ⌝ }
 {
     let mut i = 0;
-    while i < bytes.len() {
+    while i < 1024 {
         bytes[i] = (words[i] % 256) as u8;
         i += 1;
     }
@@ -121,8 +126,19 @@ fn written_within(known: TagSet, size: u64, count: usize, words: &[u64], buffer:
     }
 }
 
-// The words of a case, from after its title to its end.
-fn tried(input: &[u8], from: usize) -> usize
+// Bytes, each a word of which the lowest byte counts.
+fn bytes_lent(input: &[u8], from: usize, bytes: &mut [u8]) -> Lent
+    requires { ⌜ (from ≤ length (now input)) × (length (now bytes) ≡ 1024) ⌝ }
+    ensures { λ r. ⌜ (r .count ≤ length (now (bytes .exit))) × (from ≤ r .next) × (r .next ≤ length (now (input .entry))) ⌝ }
+{
+    let mut wide = [0u64; 1024];
+    let lent = words_lent(input, from, &mut wide);
+    narrowed(&wide, bytes);
+    lent
+}
+
+// The words of a case of the writer, from after its title to its end.
+fn write_case(input: &[u8], from: usize) -> usize
     requires { ⌜ from ≤ length (now input) ⌝ }
     ensures { λ r. ⌜ (from ≤ r) × (r ≤ length (now (input .entry))) ⌝ }
 {
@@ -132,10 +148,8 @@ fn tried(input: &[u8], from: usize) -> usize
     let count = token_at(input, size.next);
     let mut words = [0u64; 1024];
     let table = words_lent(input, count.next, &mut words);
-    let mut wide = [0u64; 1024];
-    let buffer = words_lent(input, table.next, &mut wide);
     let mut bytes = [0u8; 1024];
-    narrowed(&wide, &mut bytes);
+    let buffer = bytes_lent(input, table.next, &mut bytes);
     let lent = table.count;
     let held = buffer.count;
     written_within(
@@ -151,6 +165,75 @@ fn tried(input: &[u8], from: usize) -> usize
     buffer.next
 }
 
+fn height(title: &[u8], answer: Height) {
+    say(STDOUT_FILENO, title);
+    match answer {
+        Height::OverEllipsoid(over) => {
+            say(STDOUT_FILENO, b"ellipsoid\t");
+            signed(STDOUT_FILENO, over.0);
+            say(STDOUT_FILENO, b"\n");
+        }
+        Height::OverSeaLevel(above) => {
+            say(STDOUT_FILENO, b"sea level\t");
+            signed(STDOUT_FILENO, above.0);
+            say(STDOUT_FILENO, b"\n");
+        }
+        Height::Missing => say(STDOUT_FILENO, b"missing\n"),
+        Height::Refused(r) => refused(STDOUT_FILENO, r),
+    }
+}
+
+fn corner(packet: &[u8], known: TagSet, k: u64) {
+    say(STDOUT_FILENO, b"corner");
+    field(STDOUT_FILENO, k);
+    say(STDOUT_FILENO, b"\t");
+    match ground::corner_at(packet, known, k) {
+        Corner::At(point) => {
+            signed(STDOUT_FILENO, point.latitude);
+            say(STDOUT_FILENO, b"\t");
+            signed(STDOUT_FILENO, point.longitude);
+            say(STDOUT_FILENO, b"\n");
+        }
+        Corner::OffTheEarth => say(STDOUT_FILENO, b"off the Earth\n"),
+        Corner::Missing => say(STDOUT_FILENO, b"missing\n"),
+        Corner::Refused(r) => refused(STDOUT_FILENO, r),
+    }
+}
+
+fn ground_of(packet: &[u8], known: TagSet) {
+    height(b"sensor height\t", ground::sensor_height(packet, known));
+    height(
+        b"frame centre height\t",
+        ground::frame_centre_height(packet, known),
+    );
+    let mut k: u64 = 0;
+    while k < 6 {
+        corner(packet, known, k);
+        k += 1;
+    }
+    corner(packet, known, 0xFFFF_FFFF_FFFF_FFFF);
+}
+
+// The words of a case of heights and corners.
+fn ground_case(input: &[u8], from: usize) -> usize
+    requires { ⌜ from ≤ length (now input) ⌝ }
+    ensures { λ r. ⌜ (from ≤ r) × (r ≤ length (now (input .entry))) ⌝ }
+{
+    let low = token_at(input, from);
+    let high = token_at(input, low.next);
+    let mut bytes = [0u8; 1024];
+    let packet = bytes_lent(input, high.next, &mut bytes);
+    let held = packet.count;
+    ground_of(
+        &bytes[..held],
+        TagSet {
+            low: low.value,
+            high: high.value,
+        },
+    );
+    packet.next
+}
+
 // One case, and the place after it.
 fn case(input: &[u8], at: usize) -> usize
     requires { ⌜ at < length (now input) ⌝ }
@@ -159,7 +242,10 @@ fn case(input: &[u8], at: usize) -> usize
     let end = place_of(input, at + 1, b'\n', b'\n');
     say(STDOUT_FILENO, &input[at..end]);
     say(STDOUT_FILENO, b"\n");
-    tried(input, end)
+    if input[at] == b'@' {
+        return ground_case(input, end);
+    }
+    write_case(input, end)
 }
 
 fn cases(input: &[u8]) {
@@ -170,8 +256,15 @@ fn cases(input: &[u8]) {
     }
 }
 
+// Room for the input.
+fn space() -> [u8; 262144]
+    ensures { λ r. ⌜ 262144 ≡ length r ⌝ }
+{
+    [0; 262144]
+}
+
 fn main() {
-    let mut input = io::large_buffer();
+    let mut input = space();
     let n = io::read_full(STDIN_FILENO, &mut input);
     cases(&input[..n]);
 }

@@ -1,0 +1,71 @@
+-- `trials::ground_of` meets its contract.
+-- Assumes nothing.
+use Prim.Native.Nat.{_-_, _≤_}
+use borrow.Author.Needs.{needs}
+use Rattle.trials.proofs.ground_of.Statement.{statement}
+use Rattle.trials.proofs.ground_of.Tie as tie
+
+abbrev Inv-loop : tie.InvT-loop
+Inv-loop packet known k₀ k = k ≤ 6
+
+abbrev μ-loop : tie.MeasureT-loop
+μ-loop packet known k₀ k = 6 - k
+
+slice-aggregate-height : tie.Need-slice-aggregate-height Inv-loop μ-loop
+slice-aggregate-height c = search needs
+
+sensor-height-requires : tie.Need-sensor-height-requires Inv-loop μ-loop
+sensor-height-requires c κs = search needs
+
+height-requires : tie.Need-height-requires Inv-loop μ-loop
+height-requires c κs = search needs
+
+slice-aggregate-height-2 : tie.Need-slice-aggregate-height-2 Inv-loop μ-loop
+slice-aggregate-height-2 c = search needs
+
+frame-centre-height-requires : tie.Need-frame-centre-height-requires Inv-loop μ-loop
+frame-centre-height-requires c κs = search needs
+
+height-requires-2 : tie.Need-height-requires-2 Inv-loop μ-loop
+height-requires-2 c κs = search needs
+
+loop-holds : tie.Need-loop-holds Inv-loop μ-loop
+loop-holds c = search needs
+
+corner-requires : tie.Need-corner-requires Inv-loop μ-loop
+corner-requires c κs = search needs
+
+add-k : tie.Need-add-k Inv-loop μ-loop
+add-k c = search needs
+
+loop-less : tie.Need-loop-less Inv-loop μ-loop
+loop-less c = search needs
+
+loop-again : tie.Need-loop-again Inv-loop μ-loop
+loop-again c = search needs
+
+corner-requires-2 : tie.Need-corner-requires-2 Inv-loop μ-loop
+corner-requires-2 c κs = search needs
+
+returns : tie.Need-returns Inv-loop μ-loop
+returns c = search needs
+
+pub ground-of-spec : {M : Type 1} → statement M
+ground-of-spec =
+    tie.close
+    (tie.spec
+    Inv-loop
+    μ-loop
+    slice-aggregate-height
+    sensor-height-requires
+    height-requires
+    slice-aggregate-height-2
+    frame-centre-height-requires
+    height-requires-2
+    loop-holds
+    corner-requires
+    add-k
+    loop-less
+    loop-again
+    corner-requires-2
+    returns)
