@@ -2,4 +2,5 @@ pub mod Cases
 pub mod Every
 pub mod Parts
 pub mod Putting
+pub mod Whole
 pub mod Determined

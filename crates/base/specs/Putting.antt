@@ -94,6 +94,10 @@ module _ (o : List ℕ) (at : ℕ) where
 pub put-front : (o bs : List ℕ) → length bs ≤ length o → putInto o 0 bs ≡ bs ++ drop (length bs) o
 put-front o bs h = put-room o 0 bs (rw zero-add h) ∙ rw zero-add
 
+-- one outcome
+pub puts-once : {o : List ℕ} {at : ℕ} {bs : List ℕ} {n m : ℕ} {p q : List ℕ} → Puts o at bs n p → Puts o at bs m q → (n ≡ m) × (p ≡ q)
+puts-once x y = (x .counted ∙ sym (y .counted), x .after ∙ sym (y .after))
+
 -- so many bytes put, or none
 module _ (o : List ℕ) (at n : ℕ) (bs : List ℕ) (l : length bs ≡ n) where
   pub no-room : length o < at + n → Puts o at bs 0 o

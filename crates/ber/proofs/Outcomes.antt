@@ -1,10 +1,10 @@
 -- Each public function's contract determines its answer and what it leaves in the memory lent.
 -- Assumes nothing.
 use Prim.Native.Nat.{ℕ}
-use mathlib.Core.Path.{_≡_, sym, _∙_}
+use mathlib.Core.Path.{sym, _∙_}
 use mathlib.Core.List.{List}
 use Rattle.base.specs.Determined.{Determined, Answered}
-use Rattle.base.specs.Putting.{Puts}
+use Rattle.base.specs.Putting.{puts-once}
 use Rattle.ber.proofs.Laws.{seen-apart}
 use Rattle.ber.proofs.tag_at.Kinds as tag-at-kinds
 use Rattle.ber.proofs.tag_at.Reads as tag-at-reads
@@ -18,9 +18,6 @@ use Rattle.ber.proofs.put_tag.Kinds as put-tag-kinds
 use Rattle.ber.proofs.put_tag.Reads as put-tag-reads
 use Rattle.ber.proofs.put_length.Kinds as put-length-kinds
 use Rattle.ber.proofs.put_length.Reads as put-length-reads
-
-puts-once : {o : List ℕ} {at : ℕ} {bs : List ℕ} {n m : ℕ} {p q : List ℕ} → Puts o at bs n p → Puts o at bs m q → (n ≡ m) × (p ≡ q)
-puts-once x y = (x .counted ∙ sym (y .counted), x .after ∙ sym (y .after))
 
 pub tag-at-determined : Answered 1 tag-at-kinds.ps tag-at-kinds.r tag-at-reads.Post
 tag-at-determined κs a z z′ e e′ p q = seen-apart z z′ (p ∙ sym q)

@@ -1,10 +1,6 @@
 // What the programs share: lines written to a file descriptor, and a word of hexadecimal digits read.
 // The functions that write have no contract beyond safety: none can say what is written.
 ghost use mathlib.Core.Path.{_≡_};
-ghost use mathlib.Core.Bool.{true};
-ghost use Prim.Native.Nat.{_<_};
-ghost use lib.IntN.{pos, natAbs};
-ghost use lib.Signed.{ltZ};
 ghost use Rattle.console.specs.Word.{digitOf, wordOf};
 use refusal::Refusal;
 
@@ -22,35 +18,18 @@ pub fn field(to: i32, n: u64) {
     decimal(to, n);
 }
 
-// How far a value below zero is from zero, also the lowest.
-fn below_zero(v: i64) -> u64
-    requires { ⌜ ltZ v (pos 0) ≡ true ⌝ }
-    ensures { λ r. ⌜ r ≡ natAbs v ⌝ }
-{
-    let less = 0 - (v + 1);
-    (less as u64) + 1
-}
-
 pub fn signed(to: i32, v: i64) {
-    if v < 0 {
-        say(to, b"-");
-        decimal(to, below_zero(v));
-    } else {
-        decimal(to, v as u64);
+    let mut text = [0u8; 20];
+    let n = spelling::put_whole(&mut text, 0, v);
+    if n <= 20 {
+        say(to, &text[..n]);
     }
-}
-
-fn glyph(digit: u8) -> u8
-    requires { ⌜ digit < 16 ⌝ }
-{
-    if digit < 10 {
-        return digit + 48;
-    }
-    digit + 55
 }
 
 fn byte(to: i32, b: u8) {
-    let two = [glyph(b / 16), glyph(b % 16)];
+    let one = [b];
+    let mut two = [0u8; 2];
+    spelling::put_hex(&mut two, 0, &one);
     say(to, &two);
 }
 

@@ -6,37 +6,26 @@ use native.Mathlib.Omega.{arith}
 use mathlib.Core.Path.{_≡_, sym, ap, _∙_}
 use mathlib.Core.List.{List}
 use lib.ListN.{length, replicate}
-use borrow.Author.Tests.{le-ltb}
-use Rattle.base.specs.Cases.{never}
-use Rattle.refusal.specs.Answer.{Answer, given, refused, refusal}
+use Rattle.refusal.specs.Answer.{given, refused, refusal}
 use Rattle.refusal.specs.declared.Refusal.{Refusal}
-use Rattle.tagset.specs.Sets.{holds}
 use Rattle.tagset.specs.declared.TagSet.{TagSet}
 use Rattle.rows.specs.Kinds.{Row}
-use Rattle.packet.specs.Pieces.{Item}
-use Rattle.packet.specs.Verdict.{received, counted}
-use Rattle.packet.specs.Rows.{rowsIn, readAnswer, readTable, lentVerdict}
-use Rattle.laws.proofs.Tables.{has-read, rows-in-table}
+use Rattle.packet.specs.Rows.{rowsIn, readAnswer, readTable}
+use Rattle.laws.proofs.Tables.{has-received, received-refused}
 use Rattle.reader.specs.Reads.{Reads, readSaid}
 use Rattle.reader.specs.declared.Reading.{Reading}
 use Rattle.reader.specs.declared.Reading.the-variants as reading
 use Rattle.reader.specs.declared.Filled.{Filled}
-use Rattle.ground.specs.Ground.{fromRows, rowsGive}
+use Rattle.ground.specs.Ground.{fromRows}
 
 module _ {A : Type 0} (f : List Row → A) (K : TagSet) (p t : List ℕ) where
   pub reader-rows : (n : ℕ) → readAnswer K p t ≡ given n → fromRows f K p ≡ given (f (rowsIn 0 n (readTable K p t)))
-  unfolding fromRows received
-  reader-rows n e =
-      let r = has-read K p t n e in
-      rw (r .right, r .accepted, r .table, rows-in-table (holds K) (r .items) t n (r .count))
+  unfolding fromRows
+  reader-rows n e = let r = has-received K p t n e in rw (r .accepted, r .rows)
 
   pub reader-refusal : 512 ≤ length t → (n a u : ℕ) → readAnswer K p t ≡ refused n a u → fromRows f K p ≡ refused n a u
-  unfolding fromRows readAnswer lentVerdict received
-  reader-refusal long n a u e = go (received K p) (rw (le-ltb (length t) 512 long) at e)
-    where
-      go : (x : Answer (List Item)) → counted x ≡ refused n a u → rowsGive (holds K) f x ≡ refused n a u
-      go (given is) g = never (cc)
-      go (refused m b v) g = cc
+  unfolding fromRows
+  reader-refusal long n a u e = rw (received-refused K p t long n a u e)
 
 -- with a table of its own
 module _ {A : Type 0} (f : List Row → A) (K : TagSet) (p : List ℕ) (r : Reading) (t : List ℕ) (d : Reads K p (replicate 512 0) r t) where

@@ -19,7 +19,7 @@ use Rattle.tagset.proofs.Laws.{Included}
 use Rattle.knowing.specs.Good.{good}
 use Rattle.packet.specs.Pieces.{Item}
 use Rattle.packet.specs.Judge.{Knowing}
-use Rattle.packet.specs.Verdict.{counted, verdict}
+use Rattle.packet.specs.Verdict.{counted, verdict, received}
 use Rattle.packet.specs.Allowed.{Allowed}
 use Rattle.rows.specs.Kinds.{shapeFor, Row}
 use Rattle.rows.specs.Taken.{rowAt}
@@ -104,6 +104,31 @@ has-read K p t n e = go (lentVerdict K p t) refl e
         let h = missed (ltb (length t) 512) _ 2 0 0 (g .1) in
         record { items = is; count = cc; right = g .0; long = ltb-false _ _ (h .0); accepted = h .1; table = rw f }
     go (refused m a u) f c = never (cc)
+
+-- what it has received: the items, of which the table holds the rows
+pub record Received (K : TagSet) (p t : List ℕ) (n : ℕ) : Type 0 where
+  pub items : List Item
+  pub accepted : received K p ≡ given items
+  pub rows : rowsIn 0 n (readTable K p t) ≡ rowsOf (holds K) items
+
+pub has-received : (K : TagSet) (p t : List ℕ) (n : ℕ) → readAnswer K p t ≡ given n → Received K p t n
+unfolding received
+has-received K p t n e =
+    let r = has-read K p t n e in
+    record {
+      items = r .items;
+      accepted = rw (r .right, r .accepted);
+      rows = rw (r .table) (rows-in-table (holds K) (r .items) t n (r .count));
+    }
+
+-- with a table that is long enough its refusal is the one of a receiver that is lent none
+pub received-refused : (K : TagSet) (p t : List ℕ) → 512 ≤ length t → (n a u : ℕ) → readAnswer K p t ≡ refused n a u → received K p ≡ refused n a u
+unfolding readAnswer lentVerdict received
+received-refused K p t long n a u e = go (received K p) (rw (le-ltb (length t) 512 long) at e)
+  where
+    go : (x : Answer (List Item)) → counted x ≡ refused n a u → x ≡ refused n a u
+    go (given is) f = never (cc)
+    go (refused m b v) f = cc
 
 -- a good set and a table of at least 512 words
 module _ (K : TagSet) (p t : List ℕ) (g : good K ≡ true) (long : 512 ≤ length t) where

@@ -4,11 +4,11 @@ use Prim.Native.Nat.{ℕ, zero, suc, _+_, _-_, _^_, _<_, _≤_}
 use native.Mathlib.Omega.{arith}
 use mathlib.Core.Path.{_≡_, refl, sym, ap, ap₂, _∙_}
 use mathlib.Core.Bool.{Bool, true, false, _&&_}
-use lib.Dec.{T, ltb}
+use lib.Dec.{ltb}
 use lib.IntN.{ℤ, pos, negsuc, negℤ, natAbs, subℕ, _+ℤ_, _-ℤ_, negℤ-negℤ, negℤ-+ℤ, +ℤ-comm, +ℤ-assoc, +ℤ-negℤ-cancel, -ℤ-+ℤ-cancel}
-use lib.Signed.{mag, ltZ, nonNeg}
+use lib.Signed.{mag, ltZ}
 use mir.Syntax.{w64}
-use mir.Val.{Fits, SFits}
+use mir.Val.{SFits}
 use borrow.Author.Tests.{lt-ltb, le-ltb, ltb-false, ltb-true}
 use Rattle.base.specs.Cases.{byLt, byBool, clash}
 use Rattle.scale.specs.Scales.{side}
@@ -116,11 +116,6 @@ inside-small low (pos b) (pos n) h k p q = omega (arith, ltb-false b n q)
 inside-small low (negsuc b) (pos n) h k p q = clash q
 inside-small (pos a) high (negsuc n) h k p q = clash p
 inside-small (negsuc a) high (negsuc n) h k p q = omega (arith, ltb-false a n p)
-
--- a whole number that is not below zero, as an unsigned one
-pub natural : (z : ℤ) → SFits w64 z → ltZ z (pos 0) ≡ false → T (nonNeg z) × Fits w64 (natAbs z)
-natural (pos n) f e = (tt, record { fits = omega (arith, f .sfits) })
-natural (negsuc n) f e = clash e
 
 pub up-natural : (a b : ℤ) → ltZ b a ≡ false → ltZ (b -ℤ a) (pos 0) ≡ false
 up-natural a b e = rw (up a b e) (le-ltb (natAbs (b -ℤ a)) 0 (omega arith))

@@ -3,6 +3,7 @@
 // #: the writer. The two words of the knowing set, the size of the output, the row count, the table's words, the buffer's bytes. After the
 //    answer the whole output is written, which was filled with EE, so that a byte that stays is seen.
 // @: heights and corners. The two words of the knowing set, the packet's bytes. Corners are asked for k from 0 to 5 and 2^64 - 1.
+// %: the listing. The size of the output, the packet's bytes. The whole output is written as for the writer.
 // The input has at most 262,144 bytes, a list at most 1,024 entries.
 ghost use mathlib.Core.Path.{_≡_};
 ghost use Prim.Native.Nat.{_<_, _≤_};
@@ -17,6 +18,7 @@ use ground::Corner;
 use ground::Height;
 use libc::STDIN_FILENO;
 use libc::STDOUT_FILENO;
+use listing::Listing;
 use tagset::TagSet;
 use writer::Writing;
 
@@ -104,17 +106,32 @@ fn narrowed(words: &[u64; 1024], bytes: &mut [u8])
     }
 }
 
-fn written(known: TagSet, count: usize, words: &[u64], buffer: &[u8], out: &mut [u8]) {
-    match writer::write(known, count, words, buffer, out) {
-        Writing::Packet(packet) => {
-            say(STDOUT_FILENO, b"packet");
-            field(STDOUT_FILENO, packet.size as u64);
-            say(STDOUT_FILENO, b"\n");
-        }
-        Writing::Refused(r) => refused(STDOUT_FILENO, r),
-    }
+// What was put, and how many bytes it has.
+fn sized(what: &[u8], size: usize) {
+    say(STDOUT_FILENO, what);
+    field(STDOUT_FILENO, size as u64);
+    say(STDOUT_FILENO, b"\n");
+}
+
+fn output(out: &[u8]) {
     console::bytes(STDOUT_FILENO, out);
     say(STDOUT_FILENO, b"\n");
+}
+
+fn written(known: TagSet, count: usize, words: &[u64], buffer: &[u8], out: &mut [u8]) {
+    match writer::write(known, count, words, buffer, out) {
+        Writing::Packet(packet) => sized(b"packet", packet.size),
+        Writing::Refused(r) => refused(STDOUT_FILENO, r),
+    }
+    output(out);
+}
+
+fn listed(packet: &[u8], out: &mut [u8]) {
+    match listing::list(packet, out) {
+        Listing::Lines(lines) => sized(b"listing", lines.size),
+        Listing::Refused(r) => refused(STDOUT_FILENO, r),
+    }
+    output(out);
 }
 
 // Lends an output of the size that the case gives. There is room for 8,200 bytes: a case that asks for more gets no answer.
@@ -135,6 +152,15 @@ fn bytes_lent(input: &[u8], from: usize, bytes: &mut [u8]) -> Lent
     let lent = words_lent(input, from, &mut wide);
     narrowed(&wide, bytes);
     lent
+}
+
+// The same for the listing.
+fn listed_within(size: u64, packet: &[u8]) {
+    let mut out = [0xEEu8; 8200];
+    if size <= 8200 {
+        let end = size as usize;
+        listed(packet, &mut out[..end]);
+    }
 }
 
 // The words of a case of the writer, from after its title to its end.
@@ -234,6 +260,19 @@ fn ground_case(input: &[u8], from: usize) -> usize
     packet.next
 }
 
+// The words of a case of the listing.
+fn list_case(input: &[u8], from: usize) -> usize
+    requires { ⌜ from ≤ length (now input) ⌝ }
+    ensures { λ r. ⌜ (from ≤ r) × (r ≤ length (now (input .entry))) ⌝ }
+{
+    let size = token_at(input, from);
+    let mut bytes = [0u8; 1024];
+    let packet = bytes_lent(input, size.next, &mut bytes);
+    let held = packet.count;
+    listed_within(size.value, &bytes[..held]);
+    packet.next
+}
+
 // One case, and the place after it.
 fn case(input: &[u8], at: usize) -> usize
     requires { ⌜ at < length (now input) ⌝ }
@@ -244,6 +283,9 @@ fn case(input: &[u8], at: usize) -> usize
     say(STDOUT_FILENO, b"\n");
     if input[at] == b'@' {
         return ground_case(input, end);
+    }
+    if input[at] == b'%' {
+        return list_case(input, end);
     }
     write_case(input, end)
 }

@@ -1,8 +1,8 @@
 -- `console::bytes` meets its contract.
 -- Assumes nothing.
 use Prim.Native.Nat.{_≤_, _-_}
-use lib.ListN.{length}
 use borrow.Author.Needs.{needs}
+use lib.ListN.{length}
 use Rattle.console.proofs.bytes.Statement.{statement}
 use Rattle.console.proofs.bytes.Tie as tie
 

@@ -1,12 +1,12 @@
 -- `console::word_of` meets its contract.
 -- Assumes nothing.
 use Prim.Native.Nat.{_-_, _*_, _+_, _^_, _<_, _≤_}
+use mathlib.Core.Path.{_≡_, sym, _∙_}
 use native.Mathlib.Omega.{arith}
 use borrow.Author.Needs.{needs}
-use mathlib.Core.Path.{_≡_, sym, _∙_}
 use lib.ListN.{length, drop}
 use Rattle.base.specs.Cases.{cases}
-use Rattle.console.specs.Word.{digitOf, wordFrom, wordOf}
+use Rattle.console.specs.Word.{wordFrom, wordOf}
 use Rattle.console.proofs.Laws.{too-long, word-end, word-broken, word-goes-on, grows, fits}
 use Rattle.console.proofs.word_of.Statement.{statement}
 use Rattle.console.proofs.word_of.Tie as tie

@@ -4,7 +4,8 @@ use borrow.Author.Needs.{needs}
 use mir.Syntax.{w64}
 use mir.Val.{SFits}
 use mir.Facts.{toZ-ofZ}
-use Rattle.scale.proofs.Whole.{difference-fits, natural, up-natural}
+use Rattle.base.specs.Whole.{natural}
+use Rattle.scale.proofs.Whole.{difference-fits, up-natural}
 use Rattle.scale.proofs.apart.Statement.{statement}
 use Rattle.scale.proofs.apart.Tie as tie
 

@@ -1,0 +1,94 @@
+-- What is answered of a text that fits, and of one that does not; and the rows of an accepted packet can be listed.
+-- Assumes nothing.
+use Prim.Native.Nat.{ℕ, _+_, _<_, _≤_}
+use native.Mathlib.Omega.{arith}
+use native.Mathlib.Nat.{zero-add}
+use mathlib.Core.Path.{_≡_, sym, ap, _∙_}
+use mathlib.Core.List.{List, [], _∷_, _++_}
+use lib.ListN.{length, replicate, length-append}
+use lib.Arith.{digits-div, digits-mod}
+use borrow.Author.Tests.{lt-leb, lt-ltb, le-ltb}
+use Rattle.base.specs.Every.{Each}
+use Rattle.base.specs.Putting.{putInto}
+use Rattle.refusal.specs.Numbers.{number}
+use Rattle.refusal.specs.Answer.{given, refused, refusal}
+use Rattle.refusal.specs.declared.Refusal.{Refusal}
+use Rattle.number.specs.Stored.{Bytes}
+use Rattle.tagset.specs.Sets.{holds}
+use Rattle.catalogue.specs.Rows.{allTags}
+use Rattle.knowing.specs.Good.{good}
+use Rattle.rows.specs.Kinds.{Row}
+use Rattle.packet.specs.Pieces.{Item}
+use Rattle.packet.specs.Judge.{Knowing}
+use Rattle.packet.specs.Allowed.{Formed}
+use Rattle.packet.specs.Verdict.{received}
+use Rattle.packet.specs.Rows.{rowOf, rowsOf, rowsIn}
+use Rattle.laws.proofs.Accepted.{accepted-allowed}
+use Rattle.laws.proofs.Sent.{Lies, formed-lie}
+use Rattle.laws.proofs.Structure.{passed}
+use Rattle.laws.proofs.Tables.{Received, has-received, received-refused}
+use Rattle.reader.specs.Reads.{Reads, readSaid}
+use Rattle.reader.specs.declared.Reading.{Reading}
+use Rattle.reader.specs.declared.Reading.the-variants as reading
+use Rattle.reader.specs.declared.Filled.{Filled}
+use Rattle.spelling.specs.Spelling.{decimal}
+use Rattle.listing.specs.Lines.{header, field, linesOf, refusedWord, refusedLine}
+use Rattle.listing.specs.Listing.{textBy, listingOf}
+use Rattle.listing.specs.Lists.{textAnswer, listSaid, Lists, InPacket, Listable}
+use Rattle.listing.specs.declared.Listing.{Listing}
+use Rattle.listing.proofs.Sizes.{rows-short}
+
+module _ (text o : List ℕ) (size : ℕ) (s : size ≡ length text) (r : Listing) where
+  pub does-not-fit : length o < size → listSaid r ≡ refused 18 0 0 → Lists text o r o
+  unfolding textAnswer putInto
+  does-not-fit h e =
+      let k : length o < length text = rw s at h in
+      record { answer = e ∙ rw (lt-ltb _ _ k); output = rw (zero-add, lt-leb _ _ k) }
+
+  pub fits : size ≤ length o → listSaid r ≡ given size → (o′ : List ℕ) → o′ ≡ putInto o 0 text → Lists text o r o′
+  unfolding textAnswer
+  fits h e o′ f =
+      let k : length text ≤ length o = rw s at h in
+      record { answer = e ∙ (ap given s ∙ rw (le-ltb _ _ k)); output = f }
+
+pub rows-long : (p : List ℕ) (rs : List Row) → 21 + length (linesOf p rs) ≡ length (header ++ linesOf p rs)
+unfolding header
+rows-long p rs = sym (length-append header (linesOf p rs))
+
+pub refusal-long : (n place t : ℕ) → length (decimal n) + length (decimal place) + length (decimal t) + 11 ≡ length (refusedLine n place t)
+unfolding refusedLine refusedWord field
+refusal-long n place t =
+    rw (length-append, length-append, length-append, length-append, length-append, length-append) (omega arith)
+
+-- the rows of items that lie in the packet
+rows-inside : (K : Knowing) (p : List ℕ) (is : List Item) → Each (Lies p) is → Each (InPacket p) (rowsOf K is)
+unfolding rowsOf rowOf
+rows-inside K p [] l = tt
+rows-inside K p (i ∷ is) l =
+    (rw (digits-div (i .place) (l .0 .short), digits-mod (i .place) (l .0 .short)) (l .0 .inside), rows-inside K p is (l .1))
+
+-- a receiver of the whole catalogue, with a table of its own
+module _ (p : List ℕ) (r : Reading) (t : List ℕ) (d : Reads allTags p (replicate 512 0) r t) where
+  pub lists-refusal : (x : Refusal) → r ≡ reading.Refused x → refusedLine (number (x .reason)) (x .place) (x .tag) ≡ listingOf p
+  unfolding listingOf
+  lists-refusal x e =
+      let q : received allTags p ≡ refusal x = received-refused allTags p (replicate 512 0) (omega arith) _ _ _ (sym (d .answer) ∙ ap readSaid e) in
+      ap (textBy p) (sym q)
+
+  module _ (x : Filled) (e : r ≡ reading.Rows x) where
+    read : Received allTags p (replicate 512 0) (x .count)
+    read = has-received allTags p (replicate 512 0) (x .count) (sym (d .answer) ∙ ap readSaid e)
+
+    same-rows : rowsIn 0 (x .count) t ≡ rowsOf (holds allTags) (read .items)
+    same-rows = ap (rowsIn 0 (x .count)) (d .table) ∙ read .rows
+
+    pub lists-rows : header ++ linesOf p (rowsIn 0 (x .count) t) ≡ listingOf p
+    unfolding listingOf
+    lists-rows = ap (λ rs. header ++ linesOf p rs) same-rows ∙ ap (textBy p) (sym (read .accepted))
+
+    pub listable : Bytes p → Listable p (rowsIn 0 (x .count) t)
+    unfolding received
+    listable by =
+        let f : Formed p (read .items) = accepted-allowed (holds allTags) p (read .items) by (passed (good allTags) _ 1 0 0 (read .accepted) .1) .formed in
+        rw same-rows
+        (record { inside = rows-inside (holds allTags) p (read .items) (formed-lie p (read .items) f); short = rows-short (holds allTags) p (f .small) (read .items) f })

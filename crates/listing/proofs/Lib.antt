@@ -1,0 +1,6 @@
+pub mod Sizes
+pub mod Puts
+pub mod Texts
+pub mod Rows
+pub mod Answers
+pub mod Outcomes

@@ -1,0 +1,36 @@
+-- The public function's contract determines its answer and what it leaves in the output lent; an output of the named bound is never
+-- too short.
+-- Assumes nothing.
+use Prim.Native.Nat.{ℕ, _≤_}
+use native.Mathlib.Omega.{arith}
+use mathlib.Core.Path.{_≡_, ap, sym, _∙_}
+use mathlib.Core.List.{List}
+use lib.ListN.{length}
+use borrow.Author.Tests.{le-ltb}
+use Rattle.base.specs.Cases.{never}
+use Rattle.base.specs.Determined.{Determined}
+use Rattle.refusal.specs.Answer.{given}
+use Rattle.refusal.proofs.Laws.{refusal-apart}
+use Rattle.number.specs.Stored.{Bytes}
+use Rattle.listing.specs.Listing.{listingOf, largest}
+use Rattle.listing.specs.Lists.{textAnswer, listSaid}
+use Rattle.listing.specs.declared.Listing.{Listing}
+use Rattle.listing.specs.declared.Listing.the-variants.{Lines, Refused}
+use Rattle.listing.proofs.Sizes.{listing-short}
+use Rattle.listing.proofs.list.Kinds as list-kinds
+use Rattle.listing.proofs.list.Reads as list-reads
+
+pub listing-apart : (a b : Listing) → listSaid a ≡ listSaid b → a ≡ b
+listing-apart (Lines x) (Lines y) e =
+    let c : x .size ≡ y .size = cc in
+    λ i. Lines (record { size = c i })
+listing-apart (Lines x) (Refused s) e = never (cc)
+listing-apart (Refused r) (Lines y) e = never (cc)
+listing-apart (Refused r) (Refused s) e = ap Refused (refusal-apart r s e)
+
+pub list-determined : Determined 2 list-kinds.ps list-kinds.r list-reads.Post (List ℕ) (λ κs e. e .1 .0 .now)
+list-determined κs a z z′ e e′ p q = (listing-apart z z′ (p .answer ∙ sym (q .answer)), p .output ∙ sym (q .output))
+
+pub largest-enough : (p o : List ℕ) → Bytes p → largest ≤ length o → textAnswer (listingOf p) o ≡ given (length (listingOf p))
+unfolding textAnswer
+largest-enough p o by h = rw (le-ltb (length o) (length (listingOf p)) (omega (arith, listing-short p by)))

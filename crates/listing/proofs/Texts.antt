@@ -1,0 +1,70 @@
+-- The texts of a row by its kind, and how long they are.
+-- Assumes nothing.
+use Prim.Native.Nat.{ℕ, _+_, _*_}
+use native.Mathlib.Omega.{arith}
+use mathlib.Core.Path.{_≡_, sym, ap, _∙_}
+use mathlib.Core.List.{List, _++_}
+use lib.ListN.{length, drop, length-drop, length-append}
+use lib.Seq.{length-take-le}
+use borrow.Author.Tests.{eq-eqb, ne-eqb}
+use Rattle.rows.specs.Kinds.{Row}
+use Rattle.rows.specs.Taken.{spotPlace, spotLength}
+use Rattle.packet.specs.Rows.{bytesAt}
+use Rattle.scale.specs.Conversions.{toHouse}
+use Rattle.scale.specs.Said.{houseSaid}
+use Rattle.scale.specs.declared.ToHouse.{ToHouse}
+use Rattle.spelling.specs.Spelling.{decimal, hex}
+use Rattle.spelling.proofs.Laws.{hex-length}
+use Rattle.listing.specs.Lines.{numberWord, markWord, textWord, carriedWord, field, numberText, contentText, lineOf}
+use Rattle.listing.specs.Lists.{InPacket}
+
+-- a reading, by what the conversion answers
+pub number-said : (tag code : ℕ) (h x : ToHouse) → houseSaid h ≡ toHouse tag code → h ≡ x
+    → numberText (houseSaid x) code ≡ numberText (toHouse tag code) code
+number-said tag code h x e f = ap (λ y. numberText (houseSaid y) code) (sym f) ∙ ap (λ a. numberText a code) e
+
+module _ (p : List ℕ) (r : Row) where
+  pub number-content : r .kind ≡ 1 → numberWord ++ numberText (toHouse (r .tag) (r .code)) (r .code) ≡ contentText p r
+  unfolding contentText
+  number-content e = rw (eq-eqb _ _ e)
+
+  pub number-length : r .kind ≡ 1 → 7 + length (numberText (toHouse (r .tag) (r .code)) (r .code)) ≡ length (contentText p r)
+  unfolding numberWord
+  number-length e = sym (length-append numberWord (numberText (toHouse (r .tag) (r .code)) (r .code))) ∙ ap length (number-content e)
+
+  module _ (n : r .kind ≡ 1 → ⊥) where
+    pub mark-content : r .kind ≡ 2 → markWord ≡ contentText p r
+    unfolding contentText
+    mark-content e = rw (ne-eqb _ _ n, eq-eqb _ _ e)
+
+    pub mark-length : r .kind ≡ 2 → 6 ≡ length (contentText p r)
+    unfolding markWord
+    mark-length e = ap length (mark-content e)
+
+    module _ (m : r .kind ≡ 2 → ⊥) where
+      pub text-content : r .kind ≡ 3 → textWord ++ hex (bytesAt p r) ≡ contentText p r
+      unfolding contentText
+      text-content e = rw (ne-eqb _ _ n, ne-eqb _ _ m, eq-eqb _ _ e)
+
+      pub carried-content : (r .kind ≡ 3 → ⊥) → carriedWord ++ hex (bytesAt p r) ≡ contentText p r
+      unfolding contentText
+      carried-content k = rw (ne-eqb _ _ n, ne-eqb _ _ m, ne-eqb _ _ k)
+
+      module _ (h : InPacket p r) where
+        bytes-length : length (hex (bytesAt p r)) ≡ 2 * spotLength (r .spot)
+        bytes-length =
+            let l : length (bytesAt p r) ≡ spotLength (r .spot) =
+            length-take-le (spotLength (r .spot)) (drop (spotPlace (r .spot)) p) (rw length-drop (omega arith)) in
+            hex-length (bytesAt p r) ∙ ap (λ k. 2 * k) l
+
+        pub text-length : r .kind ≡ 3 → 5 + 2 * spotLength (r .spot) ≡ length (contentText p r)
+        unfolding textWord
+        text-length e = ap (λ k. 5 + k) (sym bytes-length) ∙ (sym (length-append textWord (hex (bytesAt p r))) ∙ ap length (text-content e))
+
+        pub carried-length : (r .kind ≡ 3 → ⊥) → 8 + 2 * spotLength (r .spot) ≡ length (contentText p r)
+        unfolding carriedWord
+        carried-length k = ap (λ k. 8 + k) (sym bytes-length) ∙ (sym (length-append carriedWord (hex (bytesAt p r))) ∙ ap length (carried-content k))
+
+  pub line-length : length (decimal (spotPlace (r .spot))) + length (decimal (r .tag)) + 2 + length (contentText p r) + 1 ≡ length (lineOf p r)
+  unfolding lineOf field
+  line-length = rw (length-append, length-append, length-append, length-append, length-append) (omega arith)

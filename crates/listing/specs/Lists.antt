@@ -1,0 +1,44 @@
+-- A text put at the front of a lent output: what is answered, and what is left there.
+use Prim.Native.Nat.{ℕ, _+_, _≤_}
+use mathlib.Core.Path.{_≡_}
+use mathlib.Core.Bool.{cond}
+use mathlib.Core.List.{List}
+use lib.ListN.{length}
+use lib.Dec.{ltb}
+use Rattle.base.specs.Every.{Each}
+use Rattle.base.specs.Putting.{putInto}
+use Rattle.refusal.specs.Answer.{Answer, given, refused, refusal}
+use Rattle.rows.specs.Kinds.{Row}
+use Rattle.rows.specs.Taken.{spotPlace, spotLength}
+use Rattle.listing.specs.Lines.{linesOf}
+use Rattle.listing.specs.declared.Listing.{Listing}
+use Rattle.listing.specs.declared.Listing.the-variants.{Lines, Refused}
+
+-- the number of bytes, or 18 where the output is too short
+unfoldable pub textAnswer : List ℕ → List ℕ → Answer ℕ
+textAnswer text o = cond (ltb (length o) (length text)) (refused 18 0 0) (given (length text))
+
+abbrev pub listSaid : Listing → Answer ℕ
+listSaid (Lines l) = given (l .size)
+listSaid (Refused r) = refusal r
+
+-- all of the text at the front of the output, or nothing
+pub record Lists (text o : List ℕ) (r : Listing) (o′ : List ℕ) : Type 0 where
+  pub answer : listSaid r ≡ textAnswer text o
+  pub output : o′ ≡ putInto o 0 text
+
+-- a text put at a place that has room for it, and the place after it
+abbrev pub Room : List ℕ → ℕ → List ℕ → Type 0
+Room o at text = at + length text ≤ length o
+
+pub record Wrote (o : List ℕ) (at : ℕ) (text : List ℕ) (next : ℕ) (o′ : List ℕ) : Type 0 where
+  pub after : next ≡ at + length text
+  pub output : o′ ≡ putInto o at text
+
+-- a row whose value lies in the packet, and rows whose lines are within the bound
+abbrev pub InPacket : List ℕ → Row → Type 0
+InPacket p r = spotPlace (r .spot) + spotLength (r .spot) ≤ length p
+
+pub record Listable (p : List ℕ) (rs : List Row) : Type 0 where
+  pub inside : Each (InPacket p) rs
+  pub short : length (linesOf p rs) ≤ 21760

@@ -1,0 +1,27 @@
+-- `trials::listed_within` meets its contract.
+-- Assumes nothing.
+use mathlib.Core.Path.{sym}
+use borrow.Author.Needs.{needs}
+use lib.Seq.{length-take-le}
+use Rattle.trials.proofs.listed_within.Statement.{statement}
+use Rattle.trials.proofs.listed_within.Tie as tie
+
+array-borrow-prefix-out : tie.Need-array-borrow-prefix-out
+array-borrow-prefix-out c = search needs
+
+slice-aggregate-listed : tie.Need-slice-aggregate-listed
+slice-aggregate-listed c = sym (length-take-le _ _ (search needs))
+
+listed-requires : tie.Need-listed-requires
+listed-requires c κs = search needs
+
+returns : tie.Need-returns
+returns c = search needs
+
+returns-2 : tie.Need-returns-2
+returns-2 c = search needs
+
+pub listed-within-spec : {M : Type 1} → statement M
+listed-within-spec =
+    tie.close
+    (tie.spec array-borrow-prefix-out slice-aggregate-listed listed-requires returns returns-2)

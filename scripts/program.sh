@@ -1,0 +1,23 @@
+# Builds the programs of this repository and starts them. To be sourced from the repository's root.
+
+# Proves and builds the programs named; what rt prints is shown only where it fails.
+build() {
+    local log
+    log=$(mktemp)
+    rt check "$@" >"$log" 2>&1 || {
+        cat "$log" >&2
+        rm "$log"
+        return 1
+    }
+    rm "$log"
+}
+
+# Starts a built program as rt does: under the kit's loader, and where the processor is another than x86-64 under its emulator.
+start() {
+    local kit tools program
+    kit=${RATTLE_HOME:-$(dirname "$(dirname "$(readlink -f "$(command -v rt)")")")}
+    tools=$kit/on/$(uname -m)/toolchain
+    program=("$tools/lib/ld-linux-x86-64.so.2" --library-path "$tools/lib" "target/bin/$1")
+    [ ! -x "$tools/bin/qemu-x86_64" ] || program=("$tools/bin/qemu-x86_64" "${program[@]}")
+    "${program[@]}" "${@:2}"
+}
