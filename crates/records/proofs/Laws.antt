@@ -10,7 +10,6 @@ use lib.ListN.{length, set, getD, replicate}
 use borrow.Author.Tests.{eqb-true}
 use Rattle.catalogue.specs.Items.{itemOf}
 use Rattle.catalogue.specs.Shapes.{isMarked, shapeBy, shapeOf}
-use Rattle.catalogue.specs.declared.Found.{Found}
 use Rattle.catalogue.specs.declared.Found.the-variants.{Known, Absent}
 use Rattle.catalogue.specs.declared.Item.{Item}
 use Rattle.catalogue.specs.declared.Shape.{Shape}

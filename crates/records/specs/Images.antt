@@ -1,7 +1,7 @@
 -- Document 01, Rows: "The writer, besides words, takes its rows as a lent list of records." The word image of a record.
 use Prim.Native.Nat.{ℕ, zero, suc, _+_, _*_, _^_}
 use mathlib.Core.Bool.{cond, _&&_}
-use mathlib.Core.List.{List, [], _∷_, _++_}
+use mathlib.Core.List.{List, [], _∷_}
 use lib.Dec.{ltb}
 use lib.ListN.{length, getD, replicate}
 use lib.Seq.{sets}
