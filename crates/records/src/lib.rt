@@ -93,20 +93,22 @@ fn image_of(row: Row) -> RowWords
 {
     let tag = row.tag;
     let content = row.content;
-    let width = width_of(tag);
     match content {
         Content::Reading(code) => RowWords {
             tag,
             kind: 1,
             code,
-            spot: width as u64,
+            spot: width_of(tag) as u64,
         },
-        Content::Mark => RowWords {
-            tag,
-            kind: 2,
-            code: mark_code(width),
-            spot: width as u64,
-        },
+        Content::Mark => {
+            let width = width_of(tag);
+            RowWords {
+                tag,
+                kind: 2,
+                code: mark_code(width),
+                spot: width as u64,
+            }
+        }
         Content::Text(part) => part_image(tag, 3, part),
         Content::Carried(part) => part_image(tag, 4, part),
     }

@@ -49,7 +49,7 @@ use Rattle.records.proofs.record_at.Code as code
 abbrev stayed : Stays (record-at.ended .signature .params) (record-at.ended .kept)
 stayed = (stay-none-slice (0 ∷ []) tt (plain (λ _. R.the-row)) yes, (stay-none (λ _. usize) yes, tt))
 
--- i rows of 32 bytes fit, since all rows do
+-- i records of 32 bytes fit, since all records do
 row-fits : (i n : ℕ) → i < n → n * 32 < 2 ^ 63 → i * 32 < 2 ^ 64
 row-fits i n l r = omega (arith, l, r)
 

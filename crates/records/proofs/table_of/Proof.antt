@@ -1,7 +1,7 @@
 -- `records::table_of` meets its contract: a walk of its MIR, by hand, with a loop. A turn calls `record_at` and `put_record`, of which the proof knows only that each meets its contract.
--- The loop's invariant, where t rows are left: `_4` is i, with i + t ≡ n, and `_3` is the machine value of the table with the first i rows put in. What `records` owns is had twice for each call, and kept.
---     exits     from what is had at exit to the `post` of `walkOf`.        more, ends    a turn that puts a row, and the turn that leaves the loop, with the rest of the body
---     loops     the loop, by `loop-rule`, with the number of rows left for the variant.        walk    the MIR up to the loop
+-- The loop's invariant, where t records are left: `_4` is i, with i + t ≡ n, and `_3` is the machine value of the table with the first i records put in. What `records` owns is had twice for each call, and kept.
+--     exits     from what is had at exit to the `post` of `walkOf`.        more, ends    a turn that puts a record, and the turn that leaves the loop, with the rest of the body
+--     loops     the loop, by `loop-rule`, with the number of records left for the variant.        walk    the MIR up to the loop
 -- Assumes nothing.
 use mathlib.Core.Path.{_≡_, refl, sym, _∙_, ap, subst}
 use Prim.Native.Nat.{ℕ, zero, suc, _+_, _<_, _≤_, _^_}
@@ -125,7 +125,7 @@ module _ {M : Type 1} (𝓤 : URA M) (H : Heap 𝓤) (A : Atoms 𝓤) (W : Given
   abbrev at : Vals table-of.signature (κ, tt)
   at = (v ∷ [], (vint w64 n ∷ [], tt))
 
-  -- the table with the first i rows put in
+  -- the table with the first i records put in
   abbrev upto : ℕ → List ℕ
   upto i = imagesInto i (s .now) (replicate 512 0)
 
@@ -200,7 +200,7 @@ module _ {M : Type 1} (𝓤 : URA M) (H : Heap 𝓤) (A : Atoms 𝓤) (W : Given
     abbrev Left : Out → SProp 𝓤
     Left = afterBlock 𝓤 H (afterSeq 𝓤 H (Wp 𝓤 H C Λ En mir.t-4 (atReturn 𝓤 H En Post)) (atReturn 𝓤 H En Post))
 
-    -- a turn that puts a row
+    -- a turn that puts a record
     more : (i : ℕ) (u : Val) (X : SProp 𝓤) → i < n → Is AR (upto i) (u ∷ []) → ((u′ : Val) → Is AR (upto (suc i)) (u′ ∷ []) → ent 𝓤 (⋆ 𝓤 H A (At (suc i) u′)) X)
         → ent 𝓤 (⋆ 𝓤 H A (At i u)) (Wp 𝓤 H C Λ En mir.turn-1 (afterTurn 𝓤 H X Left))
     unfolding afterTurn
@@ -250,7 +250,7 @@ module _ {M : Type 1} (𝓤 : URA M) (H : Heap 𝓤) (A : Atoms 𝓤) (W : Given
         move ! (12 ∷ 13 ∷ []) $ free1 ! $ move ! (10 ∷ 11 ∷ []) $ free1 ! $ move ! (8 ∷ 9 ∷ []) $ free1 ! $ move ! (6 ∷ 7 ∷ []) $ free1 ! $ move ! (4 ∷ 5 ∷ []) $ free1 ! $ move ! (2 ∷ 3 ∷ []) $ free1 ! $ free1 ! $ free0 ! $
         by ! (exits (upto i) u gn is (ap upto all))
 
-    -- the invariant, where t rows are left
+    -- the invariant, where t records are left
     holds-at : (t i : ℕ) (u : Val) → Facts t i u → ent 𝓤 (⋆ 𝓤 H A (At i u)) (Inv t)
     holds-at t i u f =
         via 𝓤 (guard 𝓤 (Facts t i u) (⋆ 𝓤 H A (At i u))) (guardI 𝓤 (Facts t i u) (⋆ 𝓤 H A (At i u)) f)

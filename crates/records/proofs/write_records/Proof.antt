@@ -74,7 +74,7 @@ use Rattle.records.proofs.write_records as write-records
 use Rattle.records.proofs.write_records.Statement as stated
 use Rattle.records.proofs.write_records.Code as code
 
--- the rows that have room are at most 128, and at most all
+-- the records that have room are at most 128, and at most all
 fit-by : (c : ℕ) (t : Bool) → ltb c 128 ≡ t → (cond t c 128 ≤ 128) × (cond t c 128 ≤ c)
 fit-by c true e = (le-of-lt (ltb→lt c 128 (subst T (sym e) tt)), le-refl c)
 fit-by c false e = (le-refl 128, nltb→le c 128 (subst (λ (t : Bool). T (not t)) (sym e) tt))
