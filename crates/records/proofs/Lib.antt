@@ -1,0 +1,5 @@
+pub mod Lent
+pub mod Laws
+pub mod Outcomes
+pub mod Same
+pub mod Refused

@@ -1,0 +1,324 @@
+-- Rows taken out singly and written as records give what the same rows give the word-table writer; and good rows are taken out.
+-- Assumes nothing.
+use Prim.Native.Nat.{ℕ, zero, suc, _+_, _*_, _^_, _<_, _≤_}
+use native.Mathlib.Nat.{div-add-mod', zero-add}
+use native.Mathlib.Omega.{arith}
+use mathlib.Core.Path.{_≡_, refl, ap, sym, _∙_, subst}
+use mathlib.Core.Bool.{Bool, true, false, cond, _&&_}
+use mathlib.Core.List.{List, [], _∷_}
+use lib.Dec.{ltb, eqb}
+use lib.ListN.{length, getD, set, replicate}
+use lib.Seq.{getD-set-same, getD-set-other, length-sets, lt-length-set}
+use borrow.Author.Tests.{eqb-true, eq-eqb, ne-eqb, lt-ltb, le-ltb, le-leb}
+use Rattle.base.specs.Cases.{byBool, byEq, byLt, never}
+use Rattle.base.specs.Every.{Each, both-left, both-right, both-true}
+use Rattle.refusal.specs.Answer.{given, refused}
+use Rattle.tagset.specs.Sets.{holds}
+use Rattle.tagset.specs.declared.TagSet.{TagSet}
+use Rattle.knowing.specs.Good.{good}
+use Rattle.catalogue.specs.Shapes.{shapeOf}
+use Rattle.catalogue.specs.declared.Shape.{Shape}
+use Rattle.catalogue.specs.declared.Shape.the-variants.{Text, Number, Absent}
+use Rattle.rows.specs.Kinds.{Row, shapeFor, kindIn, markCode}
+use Rattle.rows.specs.Taken.{spotPlace, spotLength, tagGood, codeGood, contentGood, rowGood, countGood, tagShown, rowAt, partOf, rowTakenAt}
+use Rattle.rows.specs.declared.Row.{Row as Record}
+use Rattle.rows.specs.declared.Content.the-variants as content
+use Rattle.packet.specs.Judge.{Knowing}
+use Rattle.packet.specs.Rows.{rowsIn, pieceOf, piecesOf}
+use Rattle.laws.proofs.Rows.{GoodRow}
+use Rattle.outgoing.specs.Outgoing.{sendable, outgoingRows, outgoing}
+use Rattle.outgoing.proofs.Stages.{good-otherwise}
+use Rattle.rows.proofs.Laws.{count-good}
+use Rattle.writer.specs.declared.Writing.{Writing}
+use Rattle.writer.specs.Writes.{Writes, roomy, written, bytesCount, outputBy, writeAnswer, writeOutput}
+use Rattle.records.specs.Images.{widthBy, widthOf, partImage, contentImage, imageOf, none, putImage, imagesInto, fitting, tableOf}
+use Rattle.records.specs.TakenOut.{Words, TakenOut, taken, takenAt, takenFrom}
+use Rattle.records.proofs.Laws.{width-small}
+
+-- a row with another fourth word
+abbrev placed : Row → ℕ → Row
+placed r spot = record { tag = r .tag; kind = r .kind; code = r .code; spot = spot }
+
+known-shape : (K : Knowing) (t width : ℕ) (marked : Bool) → shapeFor K t ≡ Number width marked → widthOf t ≡ width
+unfolding shapeFor
+known-shape K t width marked e =
+    byBool (K t)
+    (λ k. let f : shapeOf t ≡ Number width marked = rw k at e in ap widthBy f)
+    (λ k. let f : Absent ≡ Number width marked = rw k at e in never (cc))
+
+two-then : (b : Bool) → _≡_ {A = ℕ} 2 (cond b 2 1) → b ≡ true
+two-then true e = refl
+two-then false e = absurd (omega (arith, e))
+
+else-one : (b : Bool) (k : ℕ) → k ≡ cond b 2 1 → (k ≡ 2 → ⊥) → _≡_ {A = ℕ} 1 k
+else-one true k e f = absurd (f e)
+else-one false k e f = sym e
+
+words-of : {t t′ k k′ c c′ s s′ : ℕ} → t ≡ t′ → k ≡ k′ → c ≡ c′ → s ≡ s′
+    → _≡_ {A = Row} (record { tag = t; kind = k; code = c; spot = s }) (record { tag = t′; kind = k′; code = c′; spot = s′ })
+words-of o p q h i = record { tag = o i; kind = p i; code = q i; spot = h i }
+
+-- ---- the image of a row that is not bad
+module _ (r : Row) where
+  -- a number's is the row with place 0
+  number-image : (width : ℕ) (marked : Bool) → widthOf (r .tag) ≡ width → r .kind ≡ kindIn (Number width marked) (r .code)
+      → imageOf (taken (Number width marked) r) ≡ placed r width
+  unfolding imageOf
+  number-image width marked w k =
+      byEq (r .kind) 2
+      (λ two.
+      let m : eqb (r .code) (markCode width) ≡ true = both-right marked _ (two-then (marked && eqb (r .code) (markCode width)) (sym two ∙ k)) in
+      ap (λ b. contentImage (r .tag) (cond b content.Mark (content.Reading (r .code)))) (eq-eqb (r .kind) 2 two)
+      ∙ words-of refl (sym two) (ap markCode w ∙ sym (eqb-true _ _ m)) w)
+      (λ other.
+      ap (λ b. contentImage (r .tag) (cond b content.Mark (content.Reading (r .code)))) (ne-eqb (r .kind) 2 other)
+      ∙ words-of refl (else-one (marked && eqb (r .code) (markCode width)) (r .kind) k other) refl w)
+
+  -- what a fourth word says is put together again
+  part-image : (kind : ℕ) → r .spot < 2 ^ 64 → r .kind ≡ kind → r .code ≡ 0 → partImage (r .tag) kind (partOf (r .spot)) ≡ r
+  part-image kind h k c =
+      let place : spotPlace (r .spot) < 2 ^ 48 = omega (arith, h) in
+      let short : spotLength (r .spot) < 65536 = omega arith in
+      ap (λ b. cond b (record { tag = r .tag; kind = kind; code = 0; spot = spotPlace (r .spot) * 65536 + spotLength (r .spot) }) (record { tag = r .tag; kind = 0; code = 0; spot = 0 }))
+      (both-true _ _ (lt-ltb _ _ place) (lt-ltb _ _ short))
+      ∙ words-of refl (sym k) (sym c) (div-add-mod' (r .spot) 65536)
+
+-- what it is not to be bad, part by part
+record Fine (s : Shape) (room : ℕ) (r : Row) : Type 0 where
+  tagged : tagGood (r .tag) ≡ true
+  kind : r .kind ≡ kindIn s (r .code)
+  content : contentGood s room r ≡ true
+
+fine : (s : Shape) (room : ℕ) (r : Row) → rowGood s room r ≡ true → Fine s room r
+unfolding rowGood
+fine s room r e =
+    let e′ = both-right (tagGood (r .tag)) _ e in
+    record {
+      tagged = both-left (tagGood (r .tag)) _ e;
+      kind = eqb-true _ _ (both-left (eqb (r .kind) (kindIn s (r .code))) _ e′);
+      content = both-right (eqb (r .kind) (kindIn s (r .code))) _ e′;
+    }
+
+fine-good : (s : Shape) (room : ℕ) (r : Row) → Fine s room r → rowGood s room r ≡ true
+unfolding rowGood
+fine-good s room r f = both-true _ _ (f .tagged) (both-true _ _ (eq-eqb _ _ (f .kind)) (f .content))
+
+-- an image that is not bad either, and stands for the same piece
+record Alike (K : Knowing) (b : List ℕ) (r s : Row) : Type 0 where
+  kept : GoodRow K b s
+  piece : pieceOf K b s ≡ pieceOf K b r
+
+module _ (K : Knowing) (b : List ℕ) (r : Row) where
+  number-alike : (width : ℕ) (marked : Bool) → shapeFor K (r .tag) ≡ Number width marked → width ≤ 8 → Fine (Number width marked) (length b) r → Alike K b r (placed r width)
+  unfolding pieceOf
+  number-alike width marked f small g =
+      let size : spotLength width ≡ width = omega (arith, small) in
+      let coded : codeGood (r .tag) width (r .code) ≡ true = both-right (eqb (spotLength (r .spot)) width) _ (g .content) in
+      let g′ : Fine (Number width marked) (length b) (placed r width) = record { tagged = g .tagged; kind = g .kind; content = both-true _ _ (eq-eqb _ _ size) coded } in
+      record { kept = rw f (fine-good (Number width marked) (length b) (placed r width) g′); piece = rw f }
+
+  same-alike : (s : Row) → s ≡ r → GoodRow K b r → Alike K b r s
+  same-alike s e g = record { kept = rw e g; piece = ap (pieceOf K b) e }
+
+  alike : r .spot < 2 ^ 64 → GoodRow K b r → Alike K b r (imageOf (taken (shapeFor K (r .tag)) r))
+  unfolding imageOf
+  alike h g = go (shapeFor K (r .tag)) refl (fine (shapeFor K (r .tag)) (length b) r g)
+    where
+      go : (s : Shape) → shapeFor K (r .tag) ≡ s → Fine s (length b) r → Alike K b r (imageOf (taken s r))
+      go (Number width marked) f p =
+          let w : widthOf (r .tag) ≡ width = known-shape K (r .tag) width marked f in
+          subst (Alike K b r) (sym (number-image r width marked w (p .kind))) (number-alike width marked f (subst (λ n. n ≤ 8) w (width-small (r .tag))) p)
+      go Text f p = same-alike _ (part-image r 3 h (p .kind) (eqb-true _ _ (both-left (eqb (r .code) 0) _ (p .content)))) g
+      go Absent f p = same-alike _ (part-image r 4 h (p .kind) (eqb-true _ _ (both-left (eqb (r .code) 0) _ (p .content)))) g
+
+-- ---- the table's rows are the images
+length-images : (n : ℕ) (rs : List Record) (t : List ℕ) → length (imagesInto n rs t) ≡ length t
+unfolding imagesInto
+length-images zero rs t = refl
+length-images (suc n) rs t =
+    let r = imageOf (getD rs n none) in
+    length-sets (imagesInto n rs t) (4 * n) (r .tag ∷ r .kind ∷ r .code ∷ r .spot ∷ []) ∙ length-images n rs t
+
+-- four stores, one after the other
+module _ (t : List ℕ) (n : ℕ) (r : Row) where
+  abbrev i : ℕ
+  i = 4 * n
+
+  abbrev one : List ℕ
+  one = set t i (r .tag)
+
+  abbrev two : List ℕ
+  two = set one (suc i) (r .kind)
+
+  abbrev three : List ℕ
+  three = set two (suc (suc i)) (r .code)
+
+  -- a word before or after the second, third and fourth
+  past : (j : ℕ) → (j ≡ suc i → ⊥) → (j ≡ suc (suc i) → ⊥) → (j ≡ suc (suc (suc i)) → ⊥) → getD (putImage t n r) j 0 ≡ getD one j 0
+  past j a b c = getD-set-other three (suc (suc (suc i))) j (r .spot) 0 c ∙ getD-set-other two (suc (suc i)) j (r .code) 0 b ∙ getD-set-other one (suc i) j (r .kind) 0 a
+
+  before : (j : ℕ) → j < i → getD (putImage t n r) j 0 ≡ getD t j 0
+  before j h = past j (λ e. omega (arith, h, e)) (λ e. omega (arith, h, e)) (λ e. omega (arith, h, e)) ∙ getD-set-other t i j (r .tag) 0 (λ e. omega (arith, h, e))
+
+  put-other : (k : ℕ) → k < n → rowAt (putImage t n r) k ≡ rowAt t k
+  unfolding rowAt
+  put-other k h =
+      words-of (before (4 * k) (omega (arith, h))) (before (4 * k + 1) (omega (arith, h))) (before (4 * k + 2) (omega (arith, h))) (before (4 * k + 3) (omega (arith, h)))
+
+  put-at : 4 * n + 4 ≤ length t → rowAt (putImage t n r) n ≡ r
+  unfolding rowAt
+  put-at h =
+      words-of
+      (past i (λ e. omega (arith, e)) (λ e. omega (arith, e)) (λ e. omega (arith, e)) ∙ getD-set-same t i (r .tag) 0 (omega (arith, h)))
+      (ap (λ j. getD (putImage t n r) j 0) second ∙ getD-set-other three (suc (suc (suc i))) (suc i) (r .spot) 0 (λ e. omega (arith, e)) ∙ getD-set-other two (suc (suc i)) (suc i) (r .code) 0 (λ e. omega (arith, e))
+      ∙ getD-set-same one (suc i) (r .kind) 0 (lt-length-set t i (r .tag) (omega (arith, h))))
+      (ap (λ j. getD (putImage t n r) j 0) third ∙ getD-set-other three (suc (suc (suc i))) (suc (suc i)) (r .spot) 0 (λ e. omega (arith, e))
+      ∙ getD-set-same two (suc (suc i)) (r .code) 0 (lt-length-set one (suc i) (r .kind) (lt-length-set t i (r .tag) (omega (arith, h)))))
+      (ap (λ j. getD (putImage t n r) j 0) fourth
+      ∙ getD-set-same three (suc (suc (suc i))) (r .spot) 0 (lt-length-set two (suc (suc i)) (r .code) (lt-length-set one (suc i) (r .kind) (lt-length-set t i (r .tag) (omega (arith, h))))))
+    where
+      second : 4 * n + 1 ≡ suc i
+      second = omega arith
+
+      third : 4 * n + 2 ≡ suc (suc i)
+      third = omega arith
+
+      fourth : 4 * n + 3 ≡ suc (suc (suc i))
+      fourth = omega arith
+
+image-at : (n : ℕ) (rs : List Record) (t : List ℕ) → 4 * n ≤ length t → (k : ℕ) → k < n → rowAt (imagesInto n rs t) k ≡ imageOf (getD rs k none)
+unfolding imagesInto
+image-at zero rs t h k l = absurd (omega (arith, l))
+image-at (suc n) rs t h k l =
+    byEq k n
+    (λ same. rw same (put-at (imagesInto n rs t) n (imageOf (getD rs n none)) (rw (length-images n rs t) (omega (arith, h)))))
+    (λ other. put-other (imagesInto n rs t) n (imageOf (getD rs n none)) k (omega (arith, l)) ∙ image-at n rs t (omega (arith, h)) k (omega (arith, l)))
+
+-- as many records as have room are all of up to 128
+fitting-all : (n : ℕ) → n ≤ 128 → fitting n ≡ n
+fitting-all n h = byLt n 128 (λ l. rw (lt-ltb n 128 l)) (λ l. rw (le-ltb n 128 l) (omega (arith, h, l)))
+
+length-table : (rs : List Record) → length (tableOf rs) ≡ 512
+unfolding tableOf
+length-table rs = length-images (fitting (length rs)) rs (replicate 512 0)
+
+table-at : (rs : List Record) → length rs ≤ 128 → (k : ℕ) → k < length rs → rowAt (tableOf rs) k ≡ imageOf (getD rs k none)
+unfolding tableOf
+table-at rs h k l =
+    let all = fitting-all (length rs) h in
+    image-at (fitting (length rs)) rs (replicate 512 0) (rw all (omega (arith, h))) k (rw all l)
+
+-- ---- what a row taken out says
+record Took (K : TagSet) (room n k : ℕ) (w : List ℕ) (x : Record) : Type 0 where
+  counted : countGood n (length w) ≡ true
+  kept : rowGood (shapeFor (holds K) (rowAt w k .tag)) room (rowAt w k) ≡ true
+  is : takenAt (holds K) w k ≡ x
+
+took : (K : TagSet) (room n k : ℕ) (w : List ℕ) (x : Record) → rowTakenAt K room n k w ≡ given x → Took K room n k w x
+unfolding rowTakenAt
+took K room n k w x e =
+    byBool (good K)
+    (λ s. byBool (countGood n (length w))
+    (λ c. byBool (ltb k n)
+    (λ l. byBool (rowGood (shapeFor (holds K) (rowAt w k .tag)) room (rowAt w k))
+    (λ g. let f : given (takenAt (holds K) w k) ≡ given x = rw (s, c, l, g) at e in record { counted = c; kept = g; is = cc })
+    (λ g. let f : refused 17 k (tagShown (rowAt w k .tag)) ≡ given x = rw (s, c, l, g) at e in never (cc)))
+    (λ l. let f : refused 17 k 0 ≡ given x = rw (s, c, l) at e in never (cc)))
+    (λ c. let f : refused 16 0 0 ≡ given x = rw (s, c) at e in never (cc)))
+    (λ s. let f : refused 1 0 0 ≡ given x = rw s at e in never (cc))
+
+-- ---- lists of rows
+module _ (K : Knowing) (b : List ℕ) where
+  each-good : (k n : ℕ) (t : List ℕ) → ((j : ℕ) → k ≤ j → j < k + n → GoodRow K b (rowAt t j)) → Each (GoodRow K b) (rowsIn k n t)
+  unfolding rowsIn
+  each-good k zero t h = tt
+  each-good k (suc n) t h = (h k (omega arith) (omega arith), each-good (suc k) n t (λ j l m. h j (omega (arith, l)) (omega (arith, m))))
+
+  same-pieces : (k n : ℕ) (t u : List ℕ) → ((j : ℕ) → k ≤ j → j < k + n → pieceOf K b (rowAt t j) ≡ pieceOf K b (rowAt u j)) → piecesOf K b (rowsIn k n t) ≡ piecesOf K b (rowsIn k n u)
+  unfolding rowsIn piecesOf
+  same-pieces k zero t u h = refl
+  same-pieces k (suc n) t u h = rw (h k (omega arith) (omega arith), same-pieces (suc k) n t u (λ j l m. h j (omega (arith, l)) (omega (arith, m))))
+
+spot-fits : (w : List ℕ) → Words w → (k : ℕ) → rowAt w k .spot < 2 ^ 64
+unfolding rowAt
+spot-fits w h k = h .word (4 * k + 3)
+
+module _ (K : TagSet) (w b : List ℕ) (rs : List Record) (h : Words w) (p : TakenOut K (length b) w rs) where
+  all-took : (k : ℕ) → k < length rs → Took K (length b) (length rs) k w (getD rs k none)
+  all-took k l = took K (length b) (length rs) k w (getD rs k none) (p .row k l)
+
+  few : (length rs ≤ 128) × (4 * length rs ≤ length w)
+  few = byEq (length rs) 0
+      (λ no. (omega (arith, no), omega (arith, no)))
+      (λ some. count-good (length rs) (length w) (all-took 0 (omega (arith, some)) .counted))
+
+  alike-at : (k : ℕ) → k < length rs → Alike (holds K) b (rowAt w k) (rowAt (tableOf rs) k)
+  alike-at k l =
+      let t = all-took k l in
+      subst (Alike (holds K) b (rowAt w k)) (ap imageOf (t .is) ∙ sym (table-at rs (few .0) k l)) (alike (holds K) b (rowAt w k) (spot-fits w h k) (t .kept))
+
+  table-good : Each (GoodRow (holds K) b) (rowsIn 0 (length rs) (tableOf rs))
+  table-good = each-good (holds K) b 0 (length rs) (tableOf rs) (λ j l m. alike-at j (omega (arith, m)) .kept)
+
+  words-good : Each (GoodRow (holds K) b) (rowsIn 0 (length rs) w)
+  words-good = each-good (holds K) b 0 (length rs) w (λ j l m. all-took j (omega (arith, m)) .kept)
+
+  pieces-are : piecesOf (holds K) b (rowsIn 0 (length rs) (tableOf rs)) ≡ piecesOf (holds K) b (rowsIn 0 (length rs) w)
+  pieces-are = same-pieces (holds K) b 0 (length rs) (tableOf rs) w (λ j l m. alike-at j (omega (arith, m)) .piece)
+
+  rows-same : outgoingRows (holds K) b (rowsIn 0 (length rs) (tableOf rs)) ≡ outgoingRows (holds K) b (rowsIn 0 (length rs) w)
+  unfolding outgoingRows
+  rows-same =
+      good-otherwise (holds K) b 0 (rowsIn 0 (length rs) (tableOf rs)) _ table-good
+      ∙ (ap (sendable (holds K)) pieces-are ∙ sym (good-otherwise (holds K) b 0 (rowsIn 0 (length rs) w) _ words-good))
+
+  outgoing-same : outgoing K (length rs) (tableOf rs) b ≡ outgoing K (length rs) w b
+  unfolding outgoing
+  outgoing-same =
+      let l : countGood (length rs) (length (tableOf rs)) ≡ true = both-true _ _ (le-leb _ _ (few .0)) (le-leb (4 * length rs) (length (tableOf rs)) (rw (length-table rs) (omega (arith, few .0)))) in
+      let m : countGood (length rs) (length w) ≡ true = both-true _ _ (le-leb _ _ (few .0)) (le-leb _ _ (few .1)) in
+      rw (l, m, rows-same)
+
+  -- the same packet or the same refusal, for any room
+  pub records-written : (room : ℕ) → written K (length rs) (tableOf rs) b room ≡ written K (length rs) w b room
+  unfolding written
+  records-written room = ap (roomy room) outgoing-same
+
+  -- so one contract holds of an outcome where the other does
+  pub records-then-words : (o o′ : List ℕ) (z : Writing) → Writes K (length rs) (tableOf rs) b o z o′ → Writes K (length rs) w b o z o′
+  unfolding writeAnswer writeOutput
+  records-then-words o o′ z e = record { answer = e .answer ∙ ap bytesCount (records-written (length o)); output = e .output ∙ ap (outputBy o) (records-written (length o)) }
+
+  pub words-then-records : (o o′ : List ℕ) (z : Writing) → Writes K (length rs) w b o z o′ → Writes K (length rs) (tableOf rs) b o z o′
+  unfolding writeAnswer writeOutput
+  words-then-records o o′ z e = record { answer = e .answer ∙ sym (ap bytesCount (records-written (length o))); output = e .output ∙ sym (ap (outputBy o) (records-written (length o))) }
+
+-- ---- good rows are taken out
+taken-length : (K : Knowing) (k n : ℕ) (w : List ℕ) → length (takenFrom K k n w) ≡ n
+unfolding takenFrom
+taken-length K k zero w = refl
+taken-length K k (suc n) w = ap suc (taken-length K (suc k) n w)
+
+taken-at : (K : Knowing) (k n : ℕ) (w : List ℕ) (j : ℕ) → j < n → getD (takenFrom K k n w) j none ≡ takenAt K w (k + j)
+unfolding takenFrom
+taken-at K k zero w j l = absurd (omega (arith, l))
+taken-at K k (suc n) w zero l = let e : k ≡ k + 0 = omega arith in ap (takenAt K w) e
+taken-at K k (suc n) w (suc j) l = let e : suc k + j ≡ k + suc j = omega arith in taken-at K (suc k) n w j (omega (arith, l)) ∙ ap (takenAt K w) e
+
+good-at : (K : Knowing) (b : List ℕ) (k n : ℕ) (w : List ℕ) → Each (GoodRow K b) (rowsIn k n w) → (j : ℕ) → j < n → GoodRow K b (rowAt w (k + j))
+unfolding rowsIn
+good-at K b k zero w g j l = absurd (omega (arith, l))
+good-at K b k (suc n) w g zero l = let e : k ≡ k + 0 = omega arith in subst (λ i. GoodRow K b (rowAt w i)) e (g .0)
+good-at K b k (suc n) w g (suc j) l = let e : suc k + j ≡ k + suc j = omega arith in subst (λ i. GoodRow K b (rowAt w i)) e (good-at K b (suc k) n w (g .1) j (omega (arith, l)))
+
+pub good-taken-out : (K : TagSet) (b : List ℕ) (n : ℕ) (w : List ℕ) → good K ≡ true → countGood n (length w) ≡ true → Each (GoodRow (holds K) b) (rowsIn 0 n w)
+    → TakenOut K (length b) w (takenFrom (holds K) 0 n w)
+unfolding rowTakenAt
+good-taken-out K b n w s c g = record {
+  row = λ k l.
+      let all = taken-length (holds K) 0 n w in
+      let below : k < n = rw all at l in
+      let fine : GoodRow (holds K) b (rowAt w k) = subst (λ i. GoodRow (holds K) b (rowAt w i)) (zero-add k) (good-at (holds K) b 0 n w g k below) in
+      let same : getD (takenFrom (holds K) 0 n w) k none ≡ takenAt (holds K) w k = taken-at (holds K) 0 n w k below ∙ ap (takenAt (holds K) w) (zero-add k) in
+      rw (all, s, c, lt-ltb k n below, fine, same);
+}
