@@ -4,6 +4,9 @@
 //    answer the whole output is written, which was filled with EE, so that a byte that stays is seen.
 // @: heights and corners. The two words of the knowing set, the packet's bytes. Corners are asked for k from 0 to 5 and 2^64 - 1.
 // %: the listing. The size of the output, the packet's bytes. The whole output is written as for the writer.
+// $: the writer over three records. The two words of the knowing set, the size of the output, for each record its tag, its kind and two
+//    words (a code; or a place and a length), the buffer's bytes. The whole output is written as for the writer.
+// &: the walker. The two words of the knowing set, a number of steps, the packet's bytes. The value of each step is written.
 // The input has at most 262,144 bytes, a list at most 1,024 entries.
 ghost use mathlib.Core.Path.{_≡_};
 ghost use Prim.Native.Nat.{_<_, _≤_};
@@ -19,6 +22,9 @@ use ground::Height;
 use libc::STDIN_FILENO;
 use libc::STDOUT_FILENO;
 use listing::Listing;
+use rows::Content;
+use rows::Part;
+use rows::Row;
 use tagset::TagSet;
 use writer::Writing;
 
@@ -118,11 +124,20 @@ fn output(out: &[u8]) {
     say(STDOUT_FILENO, b"\n");
 }
 
-fn written(known: TagSet, count: usize, words: &[u64], buffer: &[u8], out: &mut [u8]) {
-    match writer::write(known, count, words, buffer, out) {
+fn packed(answer: Writing) {
+    match answer {
         Writing::Packet(packet) => sized(b"packet", packet.size),
         Writing::Refused(r) => refused(STDOUT_FILENO, r),
     }
+}
+
+fn written(known: TagSet, count: usize, words: &[u64], buffer: &[u8], out: &mut [u8]) {
+    packed(writer::write(known, count, words, buffer, out));
+    output(out);
+}
+
+fn recorded(known: TagSet, records: [Row; 3], buffer: &[u8], out: &mut [u8]) {
+    packed(records::write_three(known, records, buffer, out));
     output(out);
 }
 
@@ -134,9 +149,16 @@ fn listed(packet: &[u8], out: &mut [u8]) {
     output(out);
 }
 
+// Room for an output, each byte EE. That its length alone is known keeps the check short.
+fn filled() -> [u8; 8200]
+    ensures { λ r. ⌜ 8200 ≡ length r ⌝ }
+{
+    [0xEE; 8200]
+}
+
 // Lends an output of the size that the case gives. There is room for 8,200 bytes: a case that asks for more gets no answer.
 fn written_within(known: TagSet, size: u64, count: usize, words: &[u64], buffer: &[u8]) {
-    let mut out = [0xEEu8; 8200];
+    let mut out = filled();
     if size <= 8200 {
         let end = size as usize;
         written(known, count, words, buffer, &mut out[..end]);
@@ -156,10 +178,19 @@ fn bytes_lent(input: &[u8], from: usize, bytes: &mut [u8]) -> Lent
 
 // The same for the listing.
 fn listed_within(size: u64, packet: &[u8]) {
-    let mut out = [0xEEu8; 8200];
+    let mut out = filled();
     if size <= 8200 {
         let end = size as usize;
         listed(packet, &mut out[..end]);
+    }
+}
+
+// The same for records.
+fn recorded_within(known: TagSet, size: u64, records: [Row; 3], buffer: &[u8]) {
+    let mut out = filled();
+    if size <= 8200 {
+        let end = size as usize;
+        recorded(known, records, buffer, &mut out[..end]);
     }
 }
 
@@ -260,6 +291,68 @@ fn ground_case(input: &[u8], from: usize) -> usize
     packet.next
 }
 
+// A record, and the place after it.
+struct Spoken {
+    row: Row,
+    next: usize,
+}
+
+fn content_of(kind: u64, first: u64, second: u64) -> Content {
+    let part = Part {
+        place: first as usize,
+        length: second as usize,
+    };
+    match kind {
+        1 => Content::Reading(first),
+        2 => Content::Mark,
+        3 => Content::Text(part),
+        _ => Content::Carried(part),
+    }
+}
+
+fn record_at(input: &[u8], from: usize) -> Spoken
+    requires { ⌜ from ≤ length (now input) ⌝ }
+    ensures { λ r. ⌜ (from ≤ r .next) × (r .next ≤ length (now (input .entry))) ⌝ }
+{
+    let tag = token_at(input, from);
+    let kind = token_at(input, tag.next);
+    let first = token_at(input, kind.next);
+    let second = token_at(input, first.next);
+    let content = content_of(kind.value, first.value, second.value);
+    Spoken {
+        row: Row {
+            tag: tag.value,
+            content,
+        },
+        next: second.next,
+    }
+}
+
+// The words of a case of records.
+fn record_case(input: &[u8], from: usize) -> usize
+    requires { ⌜ from ≤ length (now input) ⌝ }
+    ensures { λ r. ⌜ (from ≤ r) × (r ≤ length (now (input .entry))) ⌝ }
+{
+    let low = token_at(input, from);
+    let high = token_at(input, low.next);
+    let size = token_at(input, high.next);
+    let first = record_at(input, size.next);
+    let second = record_at(input, first.next);
+    let third = record_at(input, second.next);
+    let mut bytes = [0u8; 1024];
+    let buffer = bytes_lent(input, third.next, &mut bytes);
+    let held = buffer.count;
+    let a = first.row;
+    let b = second.row;
+    let c = third.row;
+    let known = TagSet {
+        low: low.value,
+        high: high.value,
+    };
+    recorded_within(known, size.value, [a, b, c], &bytes[..held]);
+    buffer.next
+}
+
 // The words of a case of the listing.
 fn list_case(input: &[u8], from: usize) -> usize
     requires { ⌜ from ≤ length (now input) ⌝ }
@@ -286,6 +379,9 @@ fn case(input: &[u8], at: usize) -> usize
     }
     if input[at] == b'%' {
         return list_case(input, end);
+    }
+    if input[at] == b'$' {
+        return record_case(input, end);
     }
     write_case(input, end)
 }

@@ -6,11 +6,14 @@ use lib.Seq.{length-take-le}
 use Rattle.trials.proofs.listed_within.Statement.{statement}
 use Rattle.trials.proofs.listed_within.Tie as tie
 
+filled-requires : tie.Need-filled-requires
+filled-requires c κs = search needs
+
 array-borrow-prefix-out : tie.Need-array-borrow-prefix-out
 array-borrow-prefix-out c = search needs
 
 slice-aggregate-listed : tie.Need-slice-aggregate-listed
-slice-aggregate-listed c = sym (length-take-le _ _ (search needs))
+slice-aggregate-listed c = sym (length-take-le _ _ (array-borrow-prefix-out (c .before)))
 
 listed-requires : tie.Need-listed-requires
 listed-requires c κs = search needs
@@ -24,4 +27,10 @@ returns-2 c = search needs
 pub listed-within-spec : {M : Type 1} → statement M
 listed-within-spec =
     tie.close
-    (tie.spec array-borrow-prefix-out slice-aggregate-listed listed-requires returns returns-2)
+    (tie.spec
+    filled-requires
+    array-borrow-prefix-out
+    slice-aggregate-listed
+    listed-requires
+    returns
+    returns-2)
