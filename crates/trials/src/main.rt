@@ -353,6 +353,30 @@ fn record_case(input: &[u8], from: usize) -> usize
     buffer.next
 }
 
+// The value of each step of a walk.
+fn walked(packet: &[u8], low: u64, high: u64, steps: u64) {
+    let mut k: u64 = 0;
+    while k < steps {
+        output(walker::value_number(packet, low, high, k as usize));
+        k += 1;
+    }
+}
+
+// The words of a case of the walker.
+fn walk_case(input: &[u8], from: usize) -> usize
+    requires { ⌜ from ≤ length (now input) ⌝ }
+    ensures { λ r. ⌜ (from ≤ r) × (r ≤ length (now (input .entry))) ⌝ }
+{
+    let low = token_at(input, from);
+    let high = token_at(input, low.next);
+    let steps = token_at(input, high.next);
+    let mut bytes = [0u8; 1024];
+    let packet = bytes_lent(input, steps.next, &mut bytes);
+    let held = packet.count;
+    walked(&bytes[..held], low.value, high.value, steps.value);
+    packet.next
+}
+
 // The words of a case of the listing.
 fn list_case(input: &[u8], from: usize) -> usize
     requires { ⌜ from ≤ length (now input) ⌝ }
@@ -382,6 +406,9 @@ fn case(input: &[u8], at: usize) -> usize
     }
     if input[at] == b'$' {
         return record_case(input, end);
+    }
+    if input[at] == b'&' {
+        return walk_case(input, end);
     }
     write_case(input, end)
 }

@@ -1,0 +1,4 @@
+pub mod Headers
+pub mod Rows
+pub mod Handed
+pub mod Outcomes

@@ -1,0 +1,91 @@
+-- Document 01, Rows: "a walker that keeps the packet and its place and hands back each value as a part of the packet". What each step
+-- finds, for every packet and every place, also where no walker was started there.
+use Prim.Native.Nat.{ℕ, zero, suc, _+_, _%_, _^_}
+use mathlib.Core.Bool.{cond}
+use mathlib.Core.List.{List, []}
+use lib.Dec.{eqb}
+use lib.ListN.{length, take, drop}
+use Rattle.refusal.specs.Answer.{Answer, given, refused, refusal}
+use Rattle.number.specs.Stored.{valueOf}
+use Rattle.tagset.specs.Sets.{holds}
+use Rattle.tagset.specs.declared.TagSet.{TagSet}
+use Rattle.catalogue.specs.declared.Shape.{Shape}
+use Rattle.catalogue.specs.declared.Shape.the-variants.{Text, Number, Absent}
+use Rattle.rows.specs.Kinds.{shapeFor, kindIn}
+use Rattle.rows.specs.declared.Part.{Part}
+use Rattle.rows.specs.declared.Content.{Content}
+use Rattle.rows.specs.declared.Content.the-variants as content
+use Rattle.rows.specs.declared.Row.{Row}
+use Rattle.packet.specs.Headers.{headerAt}
+use Rattle.packet.specs.Verdict.{checked}
+use Rattle.packet.specs.declared.Header.{Header}
+use Rattle.packet.specs.declared.Accepted.{Accepted}
+use Rattle.walker.specs.declared.Found.{Found}
+use Rattle.walker.specs.declared.Found.the-variants.{Item, NoMore}
+use Rattle.walker.specs.declared.Begin.{Begin}
+use Rattle.walker.specs.declared.Begin.the-variants as begin
+
+-- the knowing set of two words
+abbrev pub knowing : ℕ → ℕ → TagSet
+knowing low high = record { low = low; high = high }
+
+-- "its tag beside one of four kinds of content"
+abbrev pub contentIn : Shape → ℕ → Part → Content
+contentIn (Number width marked) code part = cond (eqb (kindIn (Number width marked) code) 2) content.Mark (content.Reading code)
+contentIn Text code part = content.Text part
+contentIn Absent code part = content.Carried part
+
+abbrev pub valueIn : List ℕ → Header → List ℕ
+valueIn p h = take (h .size) (drop (h .place) p)
+
+-- the item with a header: of more than eight bytes of a number the last eight count
+unfoldable pub rowIn : TagSet → List ℕ → Header → Row
+rowIn K p h =
+    record {
+      tag = h .tag;
+      content = contentIn (shapeFor (holds K) (h .tag)) (valueOf (valueIn p h) % 2 ^ 64) (record { place = h .place; length = h .size });
+    }
+
+-- the item at a place, its value, and the place after it; where there is none, no bytes and the same place
+abbrev pub foundBy : TagSet → List ℕ → Answer Header → Found
+foundBy K p (given h) = Item (rowIn K p h)
+foundBy K p (refused n a t) = NoMore
+
+abbrev pub partBy : List ℕ → Answer Header → List ℕ
+partBy p (given h) = valueIn p h
+partBy p (refused n a t) = []
+
+abbrev pub nextBy : ℕ → Answer Header → ℕ
+nextBy at (given h) = h .place + h .size
+nextBy at (refused n a t) = at
+
+unfoldable pub foundAt : TagSet → List ℕ → ℕ → Found
+foundAt K p at = foundBy K p (headerAt p at)
+
+unfoldable pub partAt : List ℕ → ℕ → List ℕ
+partAt p at = partBy p (headerAt p at)
+
+unfoldable pub nextAt : List ℕ → ℕ → ℕ
+nextAt p at = nextBy at (headerAt p at)
+
+-- "Starting the walker gives the reader's refusals but for 2": good or the refusal, and where the walk begins; after a refusal that is
+-- the packet's end, where there are no more
+abbrev pub beginBy : Answer Accepted → Answer (Unit {0})
+beginBy (given a) = given tt
+beginBy (refused n p t) = refused n p t
+
+abbrev pub beginSaid : Begin → Answer (Unit {0})
+beginSaid begin.Good = given tt
+beginSaid (begin.Refused r) = refusal r
+
+abbrev pub placeBy : List ℕ → Answer Accepted → ℕ
+placeBy p (given a) = a .from
+placeBy p (refused n a t) = length p
+
+unfoldable pub startPlace : TagSet → List ℕ → ℕ
+startPlace K p = placeBy p (checked K p)
+
+-- where the item numbered i starts, walked to from the first
+unfoldable pub placeNumber : TagSet → List ℕ → ℕ → ℕ
+placeNumber K p zero = startPlace K p
+placeNumber K p (suc i) = nextAt p (placeNumber K p i)
