@@ -1,4 +1,5 @@
 // Tags and lengths as they stand before each value (SMPTE ST 336 as document 01 has it): read at a place, sized, and put at a place.
+// Every slice and every place gets an answer; a tag has one form, a length is put in its shortest, and what was put reads back.
 ghost use mathlib.Core.Path.{_≡_};
 ghost use Prim.Native.Nat.{_<_};
 ghost use lib.ListN.{length, drop};

@@ -1,4 +1,5 @@
 // The catalogue: the items that document 01 knows, as one table of tag, width, sign, low and high in house units.
+// Every answer is the one table's, in constant time, for every tag of 64 bits.
 ghost use mathlib.Core.Path.{_≡_};
 ghost use Prim.Native.Nat.{_<_};
 ghost use lib.IntN.{_+ℤ_};

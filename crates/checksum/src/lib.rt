@@ -1,4 +1,5 @@
 // The checksum: the sixteen-bit running sum of the bytes, which drops its carries.
+// It is document 01's sum modulo 65,536, of any bytes.
 ghost use mathlib.Core.Path.{_≡_};
 ghost use Prim.Native.Nat.{_+_, _*_, _%_, _<_};
 ghost use Rattle.checksum.specs.Sum.{checksumOf, weighed};

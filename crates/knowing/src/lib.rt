@@ -1,4 +1,5 @@
 // Knowing sets: which catalogue tags a receiver knows.
+// A set is good exactly where document 01 says so.
 ghost use mathlib.Core.Path.{_≡_};
 ghost use Rattle.knowing.specs.Good.{good};
 use tagset::TagSet;

@@ -1,4 +1,5 @@
 // The listing of a packet, as a person reads it: a line for each row, or one line for a refusal, in a lent output.
+// The contract gives every byte; an output that is too short is left as it was.
 ghost use mathlib.Core.Path.{_≡_};
 ghost use mathlib.Core.List.{_++_};
 ghost use lib.ListN.{length};

@@ -1,4 +1,5 @@
 // Numbers stored highest byte first: the value of the bytes in a lent slice, and a slice filled with a value's bytes.
+// What is put is read back, and every slice gets an answer.
 ghost use mathlib.Core.Path.{_≡_};
 ghost use Prim.Native.Nat.{_%_, _^_, _<_};
 ghost use lib.ListN.{length};

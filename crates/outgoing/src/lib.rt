@@ -1,4 +1,5 @@
 // What a table of rows comes to before it is written: the writer's refusals in their order, or the size of the packet.
+// Nothing is written here, and no sum wraps for any table.
 ghost use mathlib.Core.Path.{_≡_};
 ghost use Prim.Native.Nat.{_-_, _<_, _≤_};
 ghost use mathlib.Core.List.{[]};

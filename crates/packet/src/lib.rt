@@ -1,4 +1,5 @@
 // A packet checked: structure, then what the receiver knows of its items, in one walk.
+// A packet is accepted exactly when document 01 allows it, and is refused by the first refusal in its order.
 ghost use mathlib.Core.Path.{_≡_};
 ghost use Prim.Native.Nat.{_+_, _≤_};
 ghost use lib.Dec.{eqb};

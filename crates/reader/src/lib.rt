@@ -1,4 +1,5 @@
 // The reader: from a packet to a table of rows in lent words.
+// An accepted packet fills the table with its rows and zeros up to word 512; a refusal leaves every word.
 ghost use mathlib.Core.Path.{_≡_};
 ghost use Prim.Native.Nat.{_+_, _-_, _*_, _<_, _≤_};
 ghost use lib.ListN.{length, replicate};

@@ -1,4 +1,5 @@
 // The writer over a lent list of records: a thin cover over the word-table writer, with the same answers.
+// What it answers and writes is the word writer's on the records' images.
 ghost use mathlib.Core.Path.{_≡_};
 ghost use Prim.Native.Nat.{_<_, _≤_};
 ghost use lib.ListN.{length, getD, replicate};

@@ -1,4 +1,5 @@
 // Why an answer is a refusal: document 01's twenty-one reasons, with the place and the tag that go with each.
+// A reason's number is document 01's, and number, place and tag tell any two refusals apart.
 ghost use mathlib.Core.Path.{_≡_};
 ghost use Rattle.refusal.specs.Numbers.{number};
 

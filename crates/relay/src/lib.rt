@@ -1,4 +1,5 @@
 // The relay: a packet read and written again, with all that it does not know.
+// Whoever reads what was sent on reads what the original says; a refusal leaves the output.
 ghost use Rattle.relay.specs.Forwards.{Forwards};
 use reader::Reading;
 use refusal::Refusal;

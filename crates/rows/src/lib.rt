@@ -1,4 +1,5 @@
 // Rows: what a receiver makes of an item, and a row taken out of a table by itself.
+// A row is bad exactly where document 01 says so, and what is taken out is what the row says, for every table and buffer.
 ghost use mathlib.Core.Path.{_≡_};
 ghost use Prim.Native.Nat.{_+_, _*_};
 ghost use lib.ListN.{length, getD};

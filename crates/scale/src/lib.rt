@@ -1,4 +1,5 @@
 // Codes and house units: what a stored code stands for, and the code of a value, to the nearest, for every item that has a scale.
+// Values and codes are the nearest, and 19, 20 and 21 come exactly where document 01 has them.
 ghost use mathlib.Core.Path.{_≡_};
 ghost use mathlib.Core.Bool.{true, false, _&&_};
 ghost use Prim.Native.Nat.{_*_, _/_, _^_, _<_, _≤_};

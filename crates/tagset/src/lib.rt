@@ -1,4 +1,5 @@
 // Sets of tags below 128 as two words, tag t being bit t of the pair: a tag in it, a tag more, how many are below a tag, one set within another.
+// Each test is what the words mean as a set, for every tag of 64 bits.
 ghost use mathlib.Core.Path.{_≡_};
 ghost use Prim.Native.Nat.{_%_, _^_, _<_, _≤_};
 ghost use lib.Count.{ones as setBits};

@@ -1,5 +1,6 @@
 // A walker over the items of a packet: it keeps the packet and its place, and hands back each item with its value as a part of the
 // packet.
+// From the start to "no more" it hands out just the reader's rows, in their order; every step has an answer.
 ghost use mathlib.Core.Path.{_≡_};
 ghost use Prim.Native.Nat.{_+_, _≤_};
 ghost use lib.ListN.{length};

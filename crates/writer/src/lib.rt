@@ -1,4 +1,5 @@
 // The writer: from a table of rows to a packet in a lent output.
+// What is written reads back as the same table; a refusal leaves the whole output, and bytes after the packet stay.
 ghost use mathlib.Core.Path.{_≡_};
 ghost use mathlib.Core.Bool.{true};
 ghost use Prim.Native.Nat.{_+_, _≤_};
