@@ -1,0 +1,50 @@
+-- `oysterknoll::oyk_forward` meets its contract.
+-- Assumes nothing.
+use mathlib.Core.Path.{_∙_}
+use borrow.Author.Needs.{needs}
+use Rattle.relay.specs.Forwards.{forwardSaid}
+use Rattle.oysterknoll.specs.Answers.{counting}
+use Rattle.oysterknoll.proofs.Said.{said}
+use Rattle.oysterknoll.proofs.oyk_forward.Statement.{statement}
+use Rattle.oysterknoll.proofs.oyk_forward.Tie as tie
+
+forward-requires : tie.Need-forward-requires
+forward-requires c κs = search needs
+
+enum-known-refusal : tie.Need-enum-known-refusal
+enum-known-refusal c = search needs
+
+refused-requires : tie.Need-refused-requires
+refused-requires c κs = search needs
+
+enum-known-sent : tie.Need-enum-known-sent
+enum-known-sent c = search needs
+
+counted-requires : tie.Need-counted-requires
+counted-requires c κs = search needs
+
+same-length : tie.Need-same-length
+same-length c = search needs
+
+returns : tie.Need-returns
+returns c = (c .refused .ensures ∙ said counting forwardSaid (c .before .before .refusal .given .1) (c .before .before .before .before .before .before .forward .ensures .answer), c .before .before .before .before .before .before .forward .ensures .output)
+
+same-length-2 : tie.Need-same-length-2
+same-length-2 c = search needs
+
+returns-2 : tie.Need-returns-2
+returns-2 c = (c .counted .ensures ∙ said counting forwardSaid (c .before .before .sent .given .1) (c .before .before .before .before .before .before .forward .ensures .answer), c .before .before .before .before .before .before .forward .ensures .output)
+
+pub oyk-forward-spec : {M : Type 1} → statement M
+oyk-forward-spec =
+    tie.close
+    (tie.spec
+    forward-requires
+    enum-known-refusal
+    refused-requires
+    enum-known-sent
+    counted-requires
+    same-length
+    returns
+    same-length-2
+    returns-2)
