@@ -1,72 +1,20 @@
--- The column of shapes as the code makes it, row by row, and what it says of each tag.
+-- The column of shapes: what it says of each tag is what the catalogue says.
 -- Assumes nothing.
-use Prim.Native.Nat.{ℕ, _+_, _<_, _≤_}
-use native.Mathlib.Numerals.{add-one}
+use Prim.Native.Nat.{ℕ, _≤_}
 use native.Mathlib.Omega.{arith}
 use mathlib.Core.Path.{_≡_, refl, ap, sym, _∙_}
-use mathlib.Core.Bool.{Bool, true, false, _&&_}
-use mathlib.Core.List.{List, [], _∷_}
-use lib.Dec.{ltb, leb, eqb}
-use lib.IntN.{_+ℤ_}
-use lib.ListN.{length, getD, set, drop, replicate, drop-of-length-le}
-use lib.Seq.{drop-cons}
-use mir.Syntax.{w64}
-use mir.Val.{SFits}
-use borrow.Author.Tests.{ltb-true, leb-true, eqb-true, le-leb, lt-leb}
+use mathlib.Core.Bool.{Bool, true, false, _||_}
+use lib.Dec.{leb, eqb}
+use lib.ListN.{getD}
+use borrow.Author.Tests.{leb-true, eqb-true, le-leb, lt-leb}
 use Rattle.base.specs.Cases.{byLt, clash}
-use Rattle.base.specs.Every.{all, all-at, allBelow, all-below, both-left, both-right}
+use Rattle.base.specs.Every.{allBelow, all-below}
 use Rattle.catalogue.specs.Items.{groups, member, itemIn, itemOf}
-use Rattle.catalogue.specs.Shapes.{shapeBy, shapeOf}
-use Rattle.catalogue.specs.Rows.{rowsFrom, rows}
-use Rattle.catalogue.specs.Column.{columnFrom, shapeColumn, shapeFrom, shapeIn, rowByte}
-use Rattle.catalogue.specs.declared.Entry.{Entry}
+use Rattle.catalogue.specs.Shapes.{shapeBy, shapeOf, codesLimited, codeAllowed}
+use Rattle.catalogue.specs.Column.{columnFrom, shapeColumn, shapeFrom, shapeIn}
 use Rattle.catalogue.specs.declared.Shape.{Shape}
 use Rattle.catalogue.specs.declared.Shape.the-variants.{Text, Number, Absent}
-use Rattle.catalogue.proofs.Laws.{noEntry, rowAt, small, small-fits, item-beyond}
-
--- the rows' bytes, set one after the other
-abbrev pub filled : List ℕ → List Entry → List ℕ
-filled column [] = column
-filled column (e ∷ es) = filled (set column (e .0) (rowByte e)) es
-
-pub rows-filled : filled (replicate 128 255) rows ≡ shapeColumn
-unfolding groups member itemIn itemOf rowsFrom rows shapeOf columnFrom shapeColumn
-rows-filled = refl
-
--- what the code asks of each row
-rowFits : Entry → Bool
-rowFits e = ltb (e .0) 128 && (ltb (e .1) 128 && small (e .3 +ℤ e .4))
-
-rows-fit : all rowFits rows ≡ true
-unfolding groups member itemIn itemOf rowsFrom rows rowFits small
-rows-fit = refl
-
-pub rows-length : length rows ≡ 64
-unfolding groups member itemIn itemOf rowsFrom rows
-rows-length = refl
-
-pub record Fitting (e : Entry) : Type 0 where
-  pub tagged : e .0 < 128
-  pub narrow : e .1 < 128
-  pub sum-fits : SFits w64 (e .3 +ℤ e .4)
-
-pub row-fits : (i : ℕ) → i < 64 → Fitting (rowAt i)
-unfolding rowFits
-row-fits i h =
-    let e = rowAt i in
-    let p = all-at rowFits rows noEntry rows-fit i (rw rows-length h) in
-    let q = both-right (ltb (e .0) 128) _ p in
-    record {
-      tagged = ltb-true _ 128 (both-left (ltb (e .0) 128) _ p);
-      narrow = ltb-true _ 128 (both-left (ltb (e .1) 128) _ q);
-      sum-fits = small-fits _ (both-right (ltb (e .1) 128) _ q);
-    }
-
-pub fill-next : (column : List ℕ) (i : ℕ) → i < 64 → filled column (drop i rows) ≡ filled (set column (rowAt i .0) (rowByte (rowAt i))) (drop (i + 1) rows)
-fill-next column i h = rw (drop-cons rows i noEntry (rw rows-length h), add-one)
-
-pub all-filled : (column : List ℕ) (i : ℕ) → 64 ≤ i → filled column (drop i rows) ≡ column
-all-filled column i h = rw (drop-of-length-le rows {i = i} (rw rows-length h))
+use Rattle.catalogue.proofs.Laws.{item-beyond}
 
 -- the column's shape of each tag is the catalogue's
 sameShape : Shape → Shape → Bool
@@ -132,3 +80,12 @@ number-width t w m e =
     byLt t 128
     (λ h. leb-true w 8 (ap narrow (sym e) ∙ all-below (λ u. narrow (shapeOf u)) 128 all-narrow t h))
     (λ h. let f : Shape.Absent ≡ Number w m = sym (ap shapeBy (item-beyond t h)) ∙ (unshape t ∙ e) in let z : _≡_ {A = ℕ} 0 1 = cc in absurd (omega arith))
+
+-- an item that takes every code takes any two alike
+either : (a b : Bool) → a || b ≡ false → (a ≡ false) × (b ≡ false)
+either true b e = clash e
+either false b e = (refl, e)
+
+pub codes-free : (t c d : ℕ) → codesLimited t ≡ false → codeAllowed t c ≡ codeAllowed t d
+unfolding codesLimited codeAllowed
+codes-free t c d e = let f = either (eqb t 34) (eqb t 63) e in rw (f .0, f .1)

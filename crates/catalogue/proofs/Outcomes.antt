@@ -12,6 +12,8 @@ use Rattle.catalogue.proofs.shape_at.Kinds as shape-at-kinds
 use Rattle.catalogue.proofs.shape_at.Reads as shape-at-reads
 use Rattle.catalogue.proofs.allows_length.Kinds as allows-length-kinds
 use Rattle.catalogue.proofs.allows_length.Reads as allows-length-reads
+use Rattle.catalogue.proofs.limits_codes.Kinds as limits-codes-kinds
+use Rattle.catalogue.proofs.limits_codes.Reads as limits-codes-reads
 use Rattle.catalogue.proofs.allows_code.Kinds as allows-code-kinds
 use Rattle.catalogue.proofs.allows_code.Reads as allows-code-reads
 
@@ -32,3 +34,6 @@ allows-length-determined κs a z z′ e e′ p q = p ∙ sym q
 
 pub allows-code-determined : Answered 0 allows-code-kinds.ps allows-code-kinds.r allows-code-reads.Post
 allows-code-determined κs a z z′ e e′ p q = p ∙ sym q
+
+pub limits-codes-determined : Answered 0 limits-codes-kinds.ps limits-codes-kinds.r limits-codes-reads.Post
+limits-codes-determined κs a z z′ e e′ p q = p ∙ sym q

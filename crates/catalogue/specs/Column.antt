@@ -33,7 +33,3 @@ shapeColumn = columnFrom 128 0
 -- the shape that any column has for a tag
 unfoldable pub shapeIn : List ℕ → ℕ → Shape
 shapeIn column t = cond (leb 128 t) Absent (shapeFrom (getD column t 0))
-
--- the byte of a row of the table
-abbrev pub rowByte : Entry → ℕ
-rowByte e = cond (isMarked (signBy e)) (128 + e .1) (e .1)

@@ -1,6 +1,6 @@
 -- Which lengths and which codes an item allows.
 use Prim.Native.Nat.{ℕ}
-use mathlib.Core.Bool.{Bool, true, false, cond, _&&_}
+use mathlib.Core.Bool.{Bool, true, false, cond, _&&_, _||_}
 use lib.Dec.{ltb, eqb}
 use Rattle.catalogue.specs.Items.{itemOf}
 use Rattle.catalogue.specs.declared.Sign.{Sign}
@@ -35,3 +35,7 @@ lengthAllowed t n = shapeAllows (shapeOf t) n
 -- whether a tag allows a code: "34 (u8, codes 0 to 2), 63 (u8, codes 0 to 8)"
 unfoldable pub codeAllowed : ℕ → ℕ → Bool
 codeAllowed t code = cond (eqb t 34) (ltb code 3) (cond (eqb t 63) (ltb code 9) true)
+
+-- the tags that do not allow every code
+unfoldable pub codesLimited : ℕ → Bool
+codesLimited t = eqb t 34 || eqb t 63

@@ -1,14 +1,13 @@
 // The catalogue: the items that document 01 knows, as one table of tag, width, sign, low and high in house units.
 // Every answer is the one table's, in constant time, for every tag of 64 bits.
 ghost use mathlib.Core.Path.{_≡_};
-ghost use Prim.Native.Nat.{_<_};
 ghost use lib.IntN.{_+ℤ_};
 ghost use mir.Syntax.{w64};
 ghost use mir.Val.{SFits};
 ghost use Rattle.catalogue.specs.Items.{itemOf};
 ghost use Rattle.catalogue.specs.Rows.{rows, allTags, signBy};
-ghost use Rattle.catalogue.specs.Shapes.{shapeAllows, codeAllowed};
-ghost use Rattle.catalogue.specs.Column.{rowByte, shapeColumn, shapeIn};
+ghost use Rattle.catalogue.specs.Shapes.{shapeAllows, codesLimited, codeAllowed};
+ghost use Rattle.catalogue.specs.Column.{shapeColumn, shapeIn};
 use tagset::TagSet;
 
 // How the codes of a number are read: as they stand, in two's complement, or in two's complement with the lowest one a mark.
@@ -161,33 +160,143 @@ pub fn item_of(tag: u64) -> Found
     Found::Absent
 }
 
-// A row's shape as a byte: the width, and 128 more where there is a mark.
-fn shape_byte(row: Entry) -> u8
-    requires { ⌜ (row .1 < 128) × SFits w64 (row .3 +ℤ row .4) ⌝ }
-    ensures { λ r. ⌜ r ≡ rowByte row ⌝ }
-{
-    let width = row.1 as u8;
-    match sign_of(row) {
-        Sign::Marked => 128 + width,
-        Sign::Signed => width,
-        Sign::Unsigned => width,
-    }
-}
+// A tag's shape as a byte: 0 for text, the width of a number, 128 more where it has a mark, 255 for what is not in the table.
+const COLUMN: [u8; 128] = [
+    255,
+    2,
+    8,
+    0,
+    0,
+    2,
+    130,
+    130,
+    1,
+    1,
+    0,
+    0,
+    0,
+    132,
+    132,
+    2,
+    2,
+    2,
+    4,
+    132,
+    4,
+    4,
+    2,
+    132,
+    132,
+    2,
+    130,
+    130,
+    130,
+    130,
+    130,
+    130,
+    130,
+    130,
+    1,
+    2,
+    1,
+    2,
+    2,
+    1,
+    255,
+    255,
+    255,
+    255,
+    255,
+    255,
+    255,
+    255,
+    255,
+    255,
+    255,
+    255,
+    255,
+    255,
+    255,
+    1,
+    1,
+    4,
+    255,
+    0,
+    255,
+    255,
+    255,
+    1,
+    2,
+    1,
+    255,
+    132,
+    132,
+    255,
+    0,
+    2,
+    255,
+    255,
+    255,
+    2,
+    255,
+    255,
+    2,
+    130,
+    130,
+    255,
+    132,
+    132,
+    132,
+    132,
+    132,
+    132,
+    132,
+    132,
+    132,
+    132,
+    255,
+    255,
+    255,
+    255,
+    255,
+    255,
+    255,
+    255,
+    255,
+    255,
+    255,
+    255,
+    255,
+    255,
+    255,
+    255,
+    255,
+    255,
+    255,
+    255,
+    255,
+    255,
+    255,
+    255,
+    255,
+    255,
+    255,
+    255,
+    255,
+    255,
+    255,
+    255,
+    255,
+    255,
+    255,
+    255,
+];
 
-// The shapes of all tags below 128, made once and lent to `shape_at`.
+// The shapes of all tags below 128, named once at the top and lent to `shape_at`.
 pub fn shapes() -> [u8; 128]
     ensures { λ r. ⌜ r ≡ shapeColumn ⌝ }
 {
-    let rows = table();
-    let mut column = [255u8; 128];
-    let mut i = 0;
-    while i < 64 {
-        let row = rows[i];
-        let at = row.0 as usize;
-        column[at] = shape_byte(row);
-        i += 1;
-    }
-    column
+    COLUMN
 }
 
 // The shape that a column of shapes has for a tag; from 128 on there is none.
@@ -231,6 +340,16 @@ pub fn allows_length(shape: Shape, n: usize) -> bool
         Shape::Number { width, marked: _ } => n == width,
         Shape::Absent => false,
     }
+}
+
+// Whether an item takes only some of its codes.
+pub fn limits_codes(tag: u64) -> bool
+    ensures { λ r. ⌜ r ≡ codesLimited tag ⌝ }
+{
+    if tag == 34 {
+        return true;
+    }
+    tag == 63
 }
 
 // Whether an item may have a code: 34 goes from 0 to 2 and 63 from 0 to 8, every other takes all.

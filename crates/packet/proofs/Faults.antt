@@ -2,8 +2,8 @@
 -- Assumes nothing.
 use Prim.Native.Nat.{ℕ, _+_, _%_, _^_, _<_, _≤_}
 use native.Mathlib.Omega.{arith}
-use mathlib.Core.Path.{_≡_, refl, ap, _∙_}
-use mathlib.Core.Bool.{Bool, true, false}
+use mathlib.Core.Path.{_≡_, refl, ap, ap₂, _∙_}
+use mathlib.Core.Bool.{Bool, true, false, cond}
 use mathlib.Core.List.{List}
 use lib.ListN.{length, take, drop, length-take, length-drop}
 use borrow.Author.Tests.{ne-eqb}
@@ -13,11 +13,13 @@ use Rattle.number.proofs.Laws.{bytes-take, bytes-drop, value-small}
 use Rattle.tagset.specs.Sets.{holds}
 use Rattle.tagset.specs.declared.TagSet.{TagSet}
 use Rattle.catalogue.specs.Items.{groups, member, itemIn, itemOf}
-use Rattle.catalogue.specs.Shapes.{shapeOf, codeAllowed}
+use Rattle.catalogue.specs.Shapes.{shapeOf, shapeAllows, codesLimited, codeAllowed}
+use Rattle.catalogue.specs.declared.Shape.{Shape}
+use Rattle.catalogue.proofs.Columns.{codes-free}
 use Rattle.packet.specs.Pieces.{Item}
-use Rattle.packet.specs.Judge.{clean, shapeFault}
+use Rattle.packet.specs.Judge.{Fault, clean, wrong, shapeFault}
 use Rattle.packet.specs.Headers.{itemBy}
-use Rattle.packet.specs.Tally.{faultIn}
+use Rattle.packet.specs.Tally.{Met, none, met, faultIn, firstFault}
 use Rattle.packet.specs.declared.Header.{Header}
 
 pub sixty-three : shapeOf 63 ≡ shapeOf 34
@@ -54,3 +56,20 @@ module _ (K seen : TagSet) where
       let l : length v ≡ h .size = rw (length-take, length-drop) (omega arith) in
       let small : valueOf v < 256 ^ h .size = rw l at (value-small v (bytes-take (h .size) (drop (h .place) p) (bytes-drop (h .place) by))) in
       rw (e, l) (code-wraps (h .size) (valueOf v) (holds seen (h .tag)) small (h .tag))
+
+  -- an item that takes every code
+  pub fault-free : (p : List ℕ) (h : Header) → Bytes p → h .place + h .size ≤ length p → holds K (h .tag) ≡ true → codesLimited (h .tag) ≡ false
+      → shapeFault (shapeOf (h .tag)) (h .tag) (h .size) (holds seen (h .tag)) 0 ≡ faultIn K seen (itemBy p h)
+  fault-free p h by inside e free =
+      ap (λ allowed. cond (shapeAllows (shapeOf (h .tag)) (h .size)) (cond (holds seen (h .tag)) (wrong 13) (cond allowed clean (wrong 14))) (wrong 12)) (codes-free (h .tag) 0 _ free)
+      ∙ fault-known p h by inside e
+
+-- a fault found by the column's shape and the tags seen
+pub fault-told : {f : Fault} {s s′ : Shape} {twice twice′ : Bool} (t n code : ℕ) → f ≡ shapeFault s t n twice code → s ≡ s′ → twice ≡ twice′
+    → f ≡ shapeFault s′ t n twice′ code
+fault-told t n code e a b = e ∙ ap₂ (λ s twice. shapeFault s t n twice code) a b
+
+-- what is clean leaves the fault met first
+pub clean-stays : (m : Met) (start tag : ℕ) → m ≡ firstFault m clean start tag
+clean-stays none start tag = refl
+clean-stays (met n p t) start tag = refl

@@ -4,17 +4,21 @@ use Prim.Native.Nat.{ℕ, _+_, _-_, _^_, _<_, _≤_}
 use native.Mathlib.Omega.{arith}
 use native.Mathlib.Nat.{add-assoc}
 use mathlib.Core.Path.{_≡_, ap, _∙_}
+use mathlib.Core.Bool.{true}
 use mathlib.Core.List.{List}
-use lib.ListN.{length, drop, length-drop}
+use lib.ListN.{length, getD, drop, length-drop}
+use lib.Dec.{ltb}
 use lib.Seq.{drop-drop}
 use borrow.Author.Tests.{le-leb, lt-leb}
+use Rattle.base.specs.Parts.{byte-at}
+use Rattle.base.specs.Every.{both-left, both-right}
 use Rattle.refusal.specs.Answer.{given, refused}
 use Rattle.number.specs.Stored.{Bytes}
 use Rattle.number.proofs.Laws.{bytes-drop}
 use Rattle.ber.specs.Read.{got, broken, readTag, readLength}
 use Rattle.ber.proofs.Laws.{TagRead, tag-read, LengthRead, length-read}
 use Rattle.packet.specs.Pieces.{readItem, afterLength}
-use Rattle.packet.specs.Headers.{headerAt, headerBy}
+use Rattle.packet.specs.Headers.{headerAt, headerBy, shortForms}
 
 module _ (p : List ℕ) (at : ℕ) where
   pub no-tag : readTag (drop at p) ≡ broken → headerAt p at ≡ refused 7 at 0
@@ -51,3 +55,20 @@ module _ (p : List ℕ) (at : ℕ) where
 
       pub one-item : at + s + k ≤ length p → n ≤ length p - (at + s + k) → headerAt p at ≡ given (record { tag = t; start = at; place = at + s + k; size = n })
       one-item h enough = by-size ∙ rw (le-leb (s + k + n) (length p - at) (omega arith), add-assoc at s k)
+
+-- a tag and a length of one byte each, which stand at a place and the next
+module _ (p : List ℕ) (at t n : ℕ) (tag : t ≡ getD p at 0) (size : n ≡ getD p (at + 1) 0) (inside : at ≤ length p - 2) (two : 2 ≤ length p) (short : shortForms t n ≡ true) where
+  plain-tag : readTag (drop at p) ≡ got t 1
+  unfolding readTag shortForms
+  plain-tag =
+      rw (byte-at p at tag (omega arith), both-left (ltb 0 t) _ short, both-left (ltb t 128) _ (both-right (ltb 0 t) _ short))
+
+  plain-length : readLength (drop (at + 1) p) ≡ got n 1
+  unfolding readLength shortForms
+  plain-length = rw (byte-at p (at + 1) size (omega arith), both-right (ltb t 128) _ (both-right (ltb 0 t) _ short))
+
+  pub short-past-the-end : length p - (at + 1 + 1) < n → headerAt p at ≡ refused 8 at t
+  short-past-the-end = past-the-end p at t 1 plain-tag n 1 plain-length (omega arith)
+
+  pub short-item : n ≤ length p - (at + 1 + 1) → headerAt p at ≡ given (record { tag = t; start = at; place = at + 1 + 1; size = n })
+  short-item = one-item p at t 1 plain-tag n 1 plain-length (omega arith)

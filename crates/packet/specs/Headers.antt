@@ -1,6 +1,8 @@
 -- What the code's answers say, in the terms of the definitions.
 use Prim.Native.Nat.{ℕ, _+_}
+use mathlib.Core.Bool.{Bool, _&&_}
 use mathlib.Core.List.{List}
+use lib.Dec.{ltb}
 use lib.ListN.{length, take, drop}
 use Rattle.refusal.specs.Numbers.{number}
 use Rattle.refusal.specs.Answer.{Answer, given, refused, refusal}
@@ -29,6 +31,10 @@ headerBy at (one t h n) = given (record { tag = t; start = at; place = at + h; s
 
 unfoldable pub headerAt : List ℕ → ℕ → Answer Header
 headerAt p at = headerBy at (readItem (drop at p))
+
+-- a tag and a length of one byte each
+unfoldable pub shortForms : ℕ → ℕ → Bool
+shortForms tag size = ltb 0 tag && (ltb tag 128 && ltb size 128)
 
 abbrev pub stepSaid : Step → Answer Header
 stepSaid (step.Item h) = given h

@@ -9,7 +9,7 @@ ghost use Rattle.refusal.specs.Numbers.{number};
 ghost use Rattle.refusal.specs.Answer.{refused as refusedBy};
 ghost use Rattle.packet.specs.Judge.{shapeFault};
 ghost use Rattle.catalogue.specs.Column.{shapeColumn};
-ghost use Rattle.packet.specs.Headers.{itemBy, stepSaid, headerAt, faultSaid};
+ghost use Rattle.packet.specs.Headers.{itemBy, stepSaid, headerAt, shortForms, faultSaid};
 ghost use Rattle.packet.specs.Pieces.{walk as walkItems};
 ghost use Rattle.packet.specs.Structure.{key, same};
 ghost use Rattle.packet.specs.Concluded.{framedAt, frameSaid, checkSaid, judgement, lastBy, concluded, walkedBy};
@@ -33,8 +33,8 @@ pub enum Step {
     Refused(Refusal),
 }
 
-// The item at a place of a packet.
-pub fn item_at(packet: &[u8], at: usize) -> Step
+// The item at a place of a packet, whatever its tag and its length are.
+fn any_item_at(packet: &[u8], at: usize) -> Step
     ensures { λ r. ⌜ stepSaid r ≡ headerAt (now (packet .entry)) at ⌝ }
 {
     let ber::Field::Is {
@@ -72,6 +72,51 @@ pub fn item_at(packet: &[u8], at: usize) -> Step
         place,
         size,
     })
+}
+
+// Whether a tag and a length are these two bytes alone.
+fn is_short(tag: u64, length: u64) -> bool
+    ensures { λ r. ⌜ r ≡ shortForms tag length ⌝ }
+{
+    if 0 < tag {
+        if tag < 128 {
+            return length < 128;
+        }
+    }
+    false
+}
+
+// The item at a place of a packet: most have a tag and a length of one byte each.
+pub fn item_at(packet: &[u8], at: usize) -> Step
+    ensures { λ r. ⌜ stepSaid r ≡ headerAt (now (packet .entry)) at ⌝ }
+{
+    if packet.len() < 2 {
+        return any_item_at(packet, at);
+    }
+    if packet.len() - 2 < at {
+        return any_item_at(packet, at);
+    }
+    let after = at + 1;
+    let tag = number::wide(packet[at]);
+    let length = number::wide(packet[after]);
+    if is_short(tag, length) {
+        let place = after + 1;
+        let size = length as usize;
+        if packet.len() - place < size {
+            return Step::Refused(Refusal {
+                reason: Reason::LengthBroken,
+                place: at,
+                tag,
+            });
+        }
+        return Step::Item(Header {
+            tag,
+            start: at,
+            place,
+            size,
+        });
+    }
+    any_item_at(packet, at)
 }
 
 // What is wrong with a known item, if anything is.
@@ -126,10 +171,14 @@ fn fault_at(packet: &[u8], column: &[u8; 128], known: TagSet, seen: TagSet, item
     let place = item.place;
     if tagset::has(known, tag) {
         let shape = catalogue::shape_at(column, tag);
-        let end = place + size;
-        let code = number::value(&packet[place..end]);
         let twice = tagset::has(seen, tag);
-        return fault_of(shape, tag, size, twice, code);
+        if catalogue::limits_codes(tag) {
+            let end = place + size;
+            let code = number::value(&packet[place..end]);
+            return fault_of(shape, tag, size, twice, code);
+        }
+        // any code will do
+        return fault_of(shape, tag, size, twice, 0);
     }
     Fault::Clean
 }
@@ -138,11 +187,11 @@ fn fault_at(packet: &[u8], column: &[u8; 128], known: TagSet, seen: TagSet, item
 fn first_fault(met: First, fault: Fault, item: Header) -> First
     ensures { λ r. ⌜ firstSaid r ≡ firstFault (firstSaid met) (faultSaid fault) (item .start) (item .tag) ⌝ }
 {
-    match met {
-        First::At(_) => met,
-        First::None => match fault {
-            Fault::Clean => First::None,
-            Fault::Wrong(reason) => First::At(Refusal {
+    match fault {
+        Fault::Clean => met,
+        Fault::Wrong(reason) => match met {
+            First::At(_) => met,
+            First::None => First::At(Refusal {
                 reason,
                 place: item.start,
                 tag: item.tag,

@@ -9,7 +9,7 @@ use Rattle.catalogue.specs.Shapes.{shapeOf}
 use Rattle.catalogue.specs.Column.{shapeIn}
 use Rattle.catalogue.proofs.Columns.{shape-in-column}
 use Rattle.packet.specs.Judge.{shapeFault}
-use Rattle.packet.proofs.Faults.{fault-unknown, fault-known}
+use Rattle.packet.proofs.Faults.{fault-unknown, fault-known, fault-free, fault-told}
 use borrow.Author.Needs.{needs}
 use Rattle.packet.proofs.fault_at.Statement.{statement}
 use Rattle.packet.proofs.fault_at.Tie as tie
@@ -19,6 +19,12 @@ has-requires c κs = search needs
 
 shape-at-requires : tie.Need-shape-at-requires
 shape-at-requires c κs = search needs
+
+has-requires-2 : tie.Need-has-requires-2
+has-requires-2 c κs = search needs
+
+limits-codes-requires : tie.Need-limits-codes-requires
+limits-codes-requires c κs = search needs
 
 add-end : tie.Need-add-end
 add-end c = search needs
@@ -35,29 +41,36 @@ part-value-end c = search needs
 value-requires : tie.Need-value-requires
 value-requires c κs = search needs
 
-has-requires-2 : tie.Need-has-requires-2
-has-requires-2 c κs = search needs
-
 fault-of-requires : tie.Need-fault-of-requires
 fault-of-requires c κs = search needs
 
 returns : tie.Need-returns
 returns c =
+    let k = c .before .before .before .before .before .before .before .before .before in
+    let a = k .before .args in
+    let shape = c .before .before .before .before .before .before .shape-at .ensures ∙ (ap (λ l. shapeIn l (a .item .tag)) (k .before .pre .0) ∙ shape-in-column (a .item .tag)) in
+    let known = sym (c .before .before .before .before .before .before .before .before .has .ensures) ∙ c .before .before .before .before .before .before .before .if1 .taken in
+    let bytes : Bytes (a .packet .now) = record { byte = λ i. k .shared-slice-known .given i .fits } in
+    let size : a .item .place + a .item .size - a .item .place ≡ a .item .size = omega arith in
+    fault-told (a .item .tag) (a .item .size) (c .before .value .result) (c .fault-of .ensures) shape (c .before .before .before .before .before .has2 .ensures)
+    ∙ (ap (shapeFault (shapeOf (a .item .tag)) (a .item .tag) (a .item .size) (holds (a .seen) (a .item .tag))) (rw size at (c .before .value .ensures))
+    ∙ fault-known (a .known) (a .seen) (a .packet .now) (a .item) bytes (k .before .pre .1) known)
+
+fault-of-requires-2 : tie.Need-fault-of-requires-2
+fault-of-requires-2 c κs = search needs
+
+returns-2 : tie.Need-returns-2
+returns-2 c =
     let k = c .before .before .before .before .before .before .before in
     let a = k .before .args in
     let shape = c .before .before .before .before .shape-at .ensures ∙ (ap (λ l. shapeIn l (a .item .tag)) (k .before .pre .0) ∙ shape-in-column (a .item .tag)) in
-    let size : a .item .place + a .item .size - a .item .place ≡ a .item .size = omega arith in
-    let code = rw size at (c .before .before .value .ensures) in
     let known = sym (c .before .before .before .before .before .before .has .ensures) ∙ c .before .before .before .before .before .if1 .taken in
     let bytes : Bytes (a .packet .now) = record { byte = λ i. k .shared-slice-known .given i .fits } in
-    c .fault-of .ensures
-    ∙ (ap (λ s. shapeFault s (a .item .tag) (a .item .size) (c .before .has2 .result) (c .before .before .value .result)) shape
-    ∙ (ap (λ b. shapeFault (shapeOf (a .item .tag)) (a .item .tag) (a .item .size) b (c .before .before .value .result)) (c .before .has2 .ensures)
-    ∙ (ap (shapeFault (shapeOf (a .item .tag)) (a .item .tag) (a .item .size) (holds (a .seen) (a .item .tag))) code
-    ∙ fault-known (a .known) (a .seen) (a .packet .now) (a .item) bytes (k .before .pre .1) known)))
+    fault-told (a .item .tag) (a .item .size) 0 (c .fault-of2 .ensures) shape (c .before .before .before .has2 .ensures)
+    ∙ fault-free (a .known) (a .seen) (a .packet .now) (a .item) bytes (k .before .pre .1) known (sym (c .before .before .limits-codes .ensures) ∙ c .before .if2 .left)
 
-returns-2 : tie.Need-returns-2
-returns-2 c = fault-unknown _ _ _ (sym (c .before .has .ensures) ∙ c .if1 .left)
+returns-3 : tie.Need-returns-3
+returns-3 c = fault-unknown _ _ _ (sym (c .before .has .ensures) ∙ c .if1 .left)
 
 pub fault-at-spec : {M : Type 1} → statement M
 fault-at-spec =
@@ -65,12 +78,15 @@ fault-at-spec =
     (tie.spec
     has-requires
     shape-at-requires
+    has-requires-2
+    limits-codes-requires
     add-end
     sub-value
     part-value-start
     part-value-end
     value-requires
-    has-requires-2
     fault-of-requires
     returns
-    returns-2)
+    fault-of-requires-2
+    returns-2
+    returns-3)

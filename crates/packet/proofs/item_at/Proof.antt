@@ -1,87 +1,81 @@
--- `packet::item_at` meets its contract: what the tag and the length read as decides the step.
+-- `packet::item_at` meets its contract.
 -- Assumes nothing.
-use Prim.Native.Nat.{_+_, _≤_}
-use mathlib.Core.Path.{_≡_, sym, ap, _∙_}
 use native.Mathlib.Omega.{arith}
-use lib.ListN.{length, drop}
-use Rattle.number.specs.Stored.{Bytes}
-use Rattle.ber.specs.Read.{got, readTag, readLength}
-use Rattle.ber.specs.Seen.{seen}
-use Rattle.packet.proofs.Steps.{no-tag, tag-inside, no-length, length-inside, past-the-end, one-item}
+use mathlib.Core.Path.{sym, _∙_}
 use borrow.Author.Needs.{needs}
+use Rattle.packet.proofs.Steps.{short-past-the-end, short-item}
 use Rattle.packet.proofs.item_at.Statement.{statement}
 use Rattle.packet.proofs.item_at.Tie as tie
 
-bytes : (c : tie.After-shared-slice-known) → Bytes (c .before .args .packet .now)
-bytes c = record { byte = λ i. c .shared-slice-known .given i .fits }
-
-tagged : (c : tie.After-known-told) → readTag (drop (c .before .before .before .before .before .args .at) (c .before .before .before .before .before .args .packet .now)) ≡ got (c .before .tag .given .0 .0) (c .before .tag .given .0 .1 .0)
-tagged c = sym (c .before .before .before .tag-at .ensures) ∙ ap seen (c .before .tag .given .1)
-
-tag-in : (c : tie.After-known-told) → c .before .before .before .before .before .args .at + c .before .tag .given .0 .1 .0 ≤ length (c .before .before .before .before .before .args .packet .now)
-tag-in c = tag-inside _ _ _ _ (tagged c) (bytes (c .before .before .before .before)) .1
-
-sized : (c : tie.After-known-told2) → readLength (drop (c .before .before .before .before .before .before .before .before .before .args .at + c .before .before .before .before .before .tag .given .0 .1 .0) (c .before .before .before .before .before .before .before .before .before .args .packet .now)) ≡ got (c .before .length .given .0 .0) (c .before .length .given .0 .1 .0)
-sized c = sym (c .before .before .before .length-at .ensures) ∙ ap seen (c .before .length .given .1)
-
-length-in : (c : tie.After-known-told2) → c .before .before .before .before .before .before .before .before .before .args .at + c .before .before .before .before .before .tag .given .0 .1 .0 + c .before .length .given .0 .1 .0 ≤ length (c .before .before .before .before .before .before .before .before .before .args .packet .now)
-length-in c =
-    let a = c .before .before .before .before in
-    length-inside _ _ _ _ (tagged a) _ _ (sized c) (bytes (a .before .before .before .before)) .1
-
-tag-at-requires : tie.Need-tag-at-requires
-tag-at-requires c κs = search needs
-
-enum-known-tag : tie.Need-enum-known-tag
-enum-known-tag c = search needs
-
-enum-told : tie.Need-enum-told
-enum-told c = search needs
+any-item-at-requires : tie.Need-any-item-at-requires
+any-item-at-requires c κs = search needs
 
 returns : tie.Need-returns
-returns c = sym (no-tag _ _ (sym (c .before .before .tag-at .ensures) ∙ ap seen (c .enum-told .given .1)))
+returns c = search needs
 
-add-after : tie.Need-add-after
-add-after c = omega (arith, tag-in c)
+sub-if2 : tie.Need-sub-if2
+sub-if2 c = search needs
 
-length-at-requires : tie.Need-length-at-requires
-length-at-requires c κs = search needs
-
-enum-known-length : tie.Need-enum-known-length
-enum-known-length c = search needs
-
-enum-told-2 : tie.Need-enum-told-2
-enum-told-2 c = search needs
+any-item-at-requires-2 : tie.Need-any-item-at-requires-2
+any-item-at-requires-2 c κs = search needs
 
 returns-2 : tie.Need-returns-2
-returns-2 c = sym (no-length _ _ _ _ (tagged (c .before .before .before)) (sym (c .before .before .length-at .ensures) ∙ ap seen (c .enum-told2 .given .1)))
+returns-2 c = search needs
+
+add-after : tie.Need-add-after
+add-after c = search needs
+
+shared-slice-read-wide : tie.Need-shared-slice-read-wide
+shared-slice-read-wide c = search needs
+
+wide-requires : tie.Need-wide-requires
+wide-requires c κs = search needs
+
+shared-slice-read-wide-2 : tie.Need-shared-slice-read-wide-2
+shared-slice-read-wide-2 c = search needs
+
+wide-requires-2 : tie.Need-wide-requires-2
+wide-requires-2 c κs = search needs
+
+is-short-requires : tie.Need-is-short-requires
+is-short-requires c κs = search needs
 
 add-place : tie.Need-add-place
-add-place c = omega (arith, length-in c)
+add-place c = search needs
 
-sub-if1 : tie.Need-sub-if1
-sub-if1 c = length-in c
+sub-if4 : tie.Need-sub-if4
+sub-if4 c = search needs
 
 returns-3 : tie.Need-returns-3
-returns-3 c = sym (past-the-end _ _ _ _ (tagged (c .before .before .before .before .before)) _ _ (sized (c .before)) (length-in (c .before)) (c .if1 .taken))
+returns-3 c = let a = c .before .before .before .before .before .before .before .before .before .before .args in sym (short-past-the-end (a .packet .now) (a .at) _ _ (c .before .before .before .before .before .wide .ensures .0) (c .before .before .before .wide2 .ensures .0) (omega arith) (omega arith) (sym (c .before .before .is-short .ensures) ∙ c .before .if3 .taken) (c .if4 .taken))
 
 returns-4 : tie.Need-returns-4
-returns-4 c = sym (one-item _ _ _ _ (tagged (c .before .before .before .before .before)) _ _ (sized (c .before)) (length-in (c .before)) (c .if1 .left))
+returns-4 c = let a = c .before .before .before .before .before .before .before .before .before .before .args in sym (short-item (a .packet .now) (a .at) _ _ (c .before .before .before .before .before .wide .ensures .0) (c .before .before .before .wide2 .ensures .0) (omega arith) (omega arith) (sym (c .before .before .is-short .ensures) ∙ c .before .if3 .taken) (c .if4 .left))
+
+any-item-at-requires-3 : tie.Need-any-item-at-requires-3
+any-item-at-requires-3 c κs = search needs
+
+returns-5 : tie.Need-returns-5
+returns-5 c = search needs
 
 pub item-at-spec : {M : Type 1} → statement M
 item-at-spec =
     tie.close
     (tie.spec
-    tag-at-requires
-    enum-known-tag
-    enum-told
+    any-item-at-requires
     returns
-    add-after
-    length-at-requires
-    enum-known-length
-    enum-told-2
+    sub-if2
+    any-item-at-requires-2
     returns-2
+    add-after
+    shared-slice-read-wide
+    wide-requires
+    shared-slice-read-wide-2
+    wide-requires-2
+    is-short-requires
     add-place
-    sub-if1
+    sub-if4
     returns-3
-    returns-4)
+    returns-4
+    any-item-at-requires-3
+    returns-5)

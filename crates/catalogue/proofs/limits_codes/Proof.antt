@@ -1,0 +1,17 @@
+-- `catalogue::limits_codes` meets its contract.
+-- Assumes nothing.
+use Rattle.base.specs.Cases.{cases}
+use Rattle.catalogue.specs.Shapes.{codesLimited}
+use Rattle.catalogue.proofs.limits_codes.Statement.{statement}
+use Rattle.catalogue.proofs.limits_codes.Tie as tie
+
+returns : tie.Need-returns
+unfolding codesLimited
+returns c = search cases
+
+returns-2 : tie.Need-returns-2
+unfolding codesLimited
+returns-2 c = search cases
+
+pub limits-codes-spec : {M : Type 1} → statement M
+limits-codes-spec = tie.close (tie.spec returns returns-2)
