@@ -81,11 +81,11 @@ number-width t w m e =
     (λ h. leb-true w 8 (ap narrow (sym e) ∙ all-below (λ u. narrow (shapeOf u)) 128 all-narrow t h))
     (λ h. let f : Shape.Absent ≡ Number w m = sym (ap shapeBy (item-beyond t h)) ∙ (unshape t ∙ e) in let z : _≡_ {A = ℕ} 0 1 = cc in absurd (omega arith))
 
--- an item that takes every code takes any two alike
+-- an item whose codes are not limited takes every code
 either : (a b : Bool) → a || b ≡ false → (a ≡ false) × (b ≡ false)
 either true b e = clash e
 either false b e = (refl, e)
 
-pub codes-free : (t c d : ℕ) → codesLimited t ≡ false → codeAllowed t c ≡ codeAllowed t d
+pub codes-free : (t c : ℕ) → codesLimited t ≡ false → codeAllowed t c ≡ true
 unfolding codesLimited codeAllowed
-codes-free t c d e = let f = either (eqb t 34) (eqb t 63) e in rw (f .0, f .1)
+codes-free t c e = let f = either (eqb t 34) (eqb t 63) e in rw (f .0, f .1)

@@ -2,12 +2,13 @@
 -- Assumes nothing.
 use Prim.Native.Nat.{ℕ, _+_, _%_, _^_, _<_, _≤_}
 use native.Mathlib.Omega.{arith}
-use mathlib.Core.Path.{_≡_, refl, ap, ap₂, _∙_}
-use mathlib.Core.Bool.{Bool, true, false, cond}
+use mathlib.Core.Path.{_≡_, refl, ap, ap₂, sym, _∙_}
+use mathlib.Core.Bool.{Bool, true, false, not, _&&_}
 use mathlib.Core.List.{List}
 use lib.ListN.{length, take, drop, length-take, length-drop}
 use borrow.Author.Tests.{ne-eqb}
-use Rattle.base.specs.Cases.{byEq}
+use Rattle.base.specs.Cases.{byBool, byEq, clash}
+use Rattle.base.specs.Every.{both-left, both-right}
 use Rattle.number.specs.Stored.{Bytes, valueOf}
 use Rattle.number.proofs.Laws.{bytes-take, bytes-drop, value-small}
 use Rattle.tagset.specs.Sets.{holds}
@@ -19,7 +20,7 @@ use Rattle.catalogue.proofs.Columns.{codes-free}
 use Rattle.packet.specs.Pieces.{Item}
 use Rattle.packet.specs.Judge.{Fault, clean, wrong, shapeFault}
 use Rattle.packet.specs.Headers.{itemBy}
-use Rattle.packet.specs.Tally.{Met, none, met, faultIn, firstFault}
+use Rattle.packet.specs.Tally.{Met, none, met, faultIn, plainIn, firstFault}
 use Rattle.packet.specs.declared.Header.{Header}
 
 pub sixty-three : shapeOf 63 ≡ shapeOf 34
@@ -42,6 +43,10 @@ module _ (n x : ℕ) (twice : Bool) (fits : x < 256 ^ n) where
       (λ a. byEq t 63 (λ e. limited t (ap shapeOf e ∙ sixty-three))
       (λ b. rw (ne-eqb t 34 a, ne-eqb t 63 b)))
 
+not-true : (b : Bool) → not b ≡ true → b ≡ false
+not-true true e = clash (sym e)
+not-true false e = refl
+
 module _ (K seen : TagSet) where
   pub fault-unknown : (i : Item) → holds K (i .piece .tag) ≡ false → clean ≡ faultIn K seen i
   unfolding faultIn
@@ -57,12 +62,26 @@ module _ (K seen : TagSet) where
       let small : valueOf v < 256 ^ h .size = rw l at (value-small v (bytes-take (h .size) (drop (h .place) p) (bytes-drop (h .place) by))) in
       rw (e, l) (code-wraps (h .size) (valueOf v) (holds seen (h .tag)) small (h .tag))
 
-  -- an item that takes every code
-  pub fault-free : (p : List ℕ) (h : Header) → Bytes p → h .place + h .size ≤ length p → holds K (h .tag) ≡ true → codesLimited (h .tag) ≡ false
+  -- an item that takes every code: its code does not matter
+  pub fault-free : (p : List ℕ) (h : Header) → h .place + h .size ≤ length p → holds K (h .tag) ≡ true → codesLimited (h .tag) ≡ false
       → shapeFault (shapeOf (h .tag)) (h .tag) (h .size) (holds seen (h .tag)) 0 ≡ faultIn K seen (itemBy p h)
-  fault-free p h by inside e free =
-      ap (λ allowed. cond (shapeAllows (shapeOf (h .tag)) (h .size)) (cond (holds seen (h .tag)) (wrong 13) (cond allowed clean (wrong 14))) (wrong 12)) (codes-free (h .tag) 0 _ free)
-      ∙ fault-known p h by inside e
+  unfolding faultIn
+  fault-free p h inside e free =
+      let l : length (take (h .size) (drop (h .place) p)) ≡ h .size = rw (length-take, length-drop) (omega arith) in
+      rw (e, l, codes-free (h .tag) 0 free, codes-free (h .tag) (valueOf (take (h .size) (drop (h .place) p))) free)
+
+  -- clean at a glance
+  pub plain-clean : (p : List ℕ) (h : Header) → h .place + h .size ≤ length p → plainIn K seen (h .tag) (h .size) ≡ true → clean ≡ faultIn K seen (itemBy p h)
+  unfolding plainIn
+  plain-clean p h inside e =
+      byBool (holds K (h .tag))
+      (λ k.
+      let f : not (holds seen (h .tag)) && (not (codesLimited (h .tag)) && shapeAllows (shapeOf (h .tag)) (h .size)) ≡ true = rw k at e in
+      let g = both-right (not (holds seen (h .tag))) _ f in
+      let first = not-true (holds seen (h .tag)) (both-left (not (holds seen (h .tag))) _ f) in
+      let free = not-true (codesLimited (h .tag)) (both-left (not (codesLimited (h .tag))) _ g) in
+      rw (both-right (not (codesLimited (h .tag))) _ g, first, codes-free (h .tag) 0 free) at (fault-free p h inside k free))
+      (λ k. fault-unknown (itemBy p h) k)
 
 -- a fault found by the column's shape and the tags seen
 pub fault-told : {f : Fault} {s s′ : Shape} {twice twice′ : Bool} (t n code : ℕ) → f ≡ shapeFault s t n twice code → s ≡ s′ → twice ≡ twice′

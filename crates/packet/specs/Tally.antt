@@ -1,6 +1,6 @@
 -- What a walk keeps of the items that it has passed, one after another from the left.
 use Prim.Native.Nat.{ℕ, _+_}
-use mathlib.Core.Bool.{cond}
+use mathlib.Core.Bool.{Bool, true, cond, not, _&&_}
 use mathlib.Core.List.{List, [], _∷_}
 use lib.ListN.{length}
 use lib.Dec.{eqb}
@@ -9,7 +9,7 @@ use Rattle.refusal.specs.Numbers.{number}
 use Rattle.number.specs.Stored.{valueOf}
 use Rattle.tagset.specs.Sets.{holds, withTag}
 use Rattle.tagset.specs.declared.TagSet.{TagSet}
-use Rattle.catalogue.specs.Shapes.{shapeOf}
+use Rattle.catalogue.specs.Shapes.{shapeOf, shapeAllows, codesLimited}
 use Rattle.packet.specs.Pieces.{Item}
 use Rattle.packet.specs.Judge.{Fault, clean, wrong, shapeFault}
 use Rattle.packet.specs.Headers.{headerOf}
@@ -48,6 +48,10 @@ unfoldable pub faultIn : TagSet → TagSet → Item → Fault
 faultIn K seen i =
     let c = i .piece in
     cond (holds K (c .tag)) (shapeFault (shapeOf (c .tag)) (c .tag) (length (c .value)) (holds seen (c .tag)) (valueOf (c .value))) clean
+
+-- clean without a look at its value: unknown, or the first of its tag, of a right length, with no limit on its codes
+unfoldable pub plainIn : TagSet → TagSet → ℕ → ℕ → Bool
+plainIn K seen tag size = cond (holds K tag) (not (holds seen tag) && (not (codesLimited tag) && shapeAllows (shapeOf tag) size)) true
 
 abbrev pub firstFault : Met → Fault → ℕ → ℕ → Met
 firstFault none clean start tag = none

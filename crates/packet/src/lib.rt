@@ -14,7 +14,7 @@ ghost use Rattle.packet.specs.Pieces.{walk as walkItems};
 ghost use Rattle.packet.specs.Structure.{key, same};
 ghost use Rattle.packet.specs.Concluded.{framedAt, frameSaid, checkSaid, judgement, lastBy, concluded, walkedBy};
 ghost use Rattle.packet.specs.Verdict.{checked};
-ghost use Rattle.packet.specs.Tally.{faultIn, firstFault, firstSaid, withHeader, fresh, tallied, tallySaid, walkSaid};
+ghost use Rattle.packet.specs.Tally.{faultIn, plainIn, firstFault, firstSaid, withHeader, fresh, tallied, tallySaid, walkSaid};
 use catalogue::Shape;
 use refusal::Reason;
 use refusal::Refusal;
@@ -183,6 +183,24 @@ fn fault_at(packet: &[u8], column: &[u8; 128], known: TagSet, seen: TagSet, item
     Fault::Clean
 }
 
+// Whether an item is clean at a glance, as most are; where it is not, `fault_at` says what is wrong, if anything is.
+fn is_plain(column: &[u8; 128], known: TagSet, seen: TagSet, item: Header) -> bool
+    requires { ⌜ now column ≡ shapeColumn ⌝ }
+    ensures { λ r. ⌜ r ≡ plainIn known seen (item .tag) (item .size) ⌝ }
+{
+    let tag = item.tag;
+    if tagset::has(known, tag) {
+        if tagset::has(seen, tag) {
+            return false;
+        }
+        if catalogue::limits_codes(tag) {
+            return false;
+        }
+        return catalogue::allows_length(catalogue::shape_at(column, tag), item.size);
+    }
+    true
+}
+
 // The fault met first stays.
 fn first_fault(met: First, fault: Fault, item: Header) -> First
     ensures { λ r. ⌜ firstSaid r ≡ firstFault (firstSaid met) (faultSaid fault) (item .start) (item .tag) ⌝ }
@@ -262,8 +280,13 @@ fn walk_from(packet: &[u8], from: usize, column: &[u8; 128], known: TagSet) -> W
                 return Walk::Refused(refusal);
             }
             Step::Item(item) => {
-                let fault = fault_at(packet, column, known, tally.seen, item);
-                tally = with_item(tally, item, fault);
+                let seen = tally.seen;
+                if is_plain(column, known, seen, item) {
+                    tally = with_item(tally, item, Fault::Clean);
+                } else {
+                    let fault = fault_at(packet, column, known, seen, item);
+                    tally = with_item(tally, item, fault);
+                }
                 here = item.place + item.size;
             }
         }

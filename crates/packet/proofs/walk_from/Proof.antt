@@ -2,13 +2,15 @@
 -- Assumes nothing.
 use Prim.Native.Nat.{ℕ, suc, _+_, _-_, _≤_}
 use mathlib.Core.Path.{_≡_, sym, ap, _∙_}
+use mathlib.Core.Logic.{⊎-elim}
 use native.Mathlib.Omega.{arith}
 use borrow.Author.Needs.{needs}
 use lib.ListN.{length, drop}
 use Rattle.refusal.specs.Answer.{given}
 use Rattle.packet.specs.Pieces.{walk}
 use Rattle.packet.specs.Headers.{headerAt, stepSaid, itemBy}
-use Rattle.packet.specs.Tally.{fresh, tallied, tallySaid}
+use Rattle.packet.specs.Tally.{fresh, faultIn, withHeader, tallied, tallySaid}
+use Rattle.packet.proofs.Faults.{plain-clean}
 use Rattle.packet.proofs.Walks.{walk-end, walk-full, walk-refused, walk-item, Lies, header-lies, header-back, tallied-before, tallied-none}
 use Rattle.packet.proofs.walk_from.Statement.{statement}
 use Rattle.packet.proofs.walk_from.Tie as tie
@@ -68,21 +70,46 @@ returns-2 c =
 enum-known-item : tie.Need-enum-known-item Inv-loop μ-loop
 enum-known-item c = search needs
 
-fault-at-requires : tie.Need-fault-at-requires Inv-loop μ-loop
-fault-at-requires c κs = (c .before .before .before .before .before .before .before .before .before .pre, lies c .inside)
+is-plain-requires : tie.Need-is-plain-requires Inv-loop μ-loop
+is-plain-requires c κs = c .before .before .before .before .before .before .before .before .before .before .pre
 
 with-item-requires : tie.Need-with-item-requires Inv-loop μ-loop
-with-item-requires c κs = c .before .before .before .before .before .before .before .loop .inv .0
+with-item-requires c κs = c .before .before .before .before .before .before .before .before .before .loop .inv .0
+
+fault-at-requires : tie.Need-fault-at-requires Inv-loop μ-loop
+fault-at-requires c κs = (c .before .before .before .before .before .before .before .before .before .before .before .before .pre, lies (c .before .before .before) .inside)
+
+with-item-requires-2 : tie.Need-with-item-requires-2 Inv-loop μ-loop
+with-item-requires-2 c κs = c .before .before .before .before .before .before .before .before .before .before .loop .inv .0
 
 add-here : tie.Need-add-here Inv-loop μ-loop
-add-here c = omega (arith, lies (c .before .before .before) .inside, c .before .before .before .before .before .before .before .before .before .before .before .before .good)
+add-here c = omega (arith, lies (c .before .before .before .before) .inside, c .before .before .before .before .before .before .before .before .before .before .before .before .before .good)
 
 loop-less : tie.Need-loop-less Inv-loop μ-loop
-loop-less c = omega (arith, lies (c .before .before .before))
+loop-less c = omega (arith, lies (c .before .before .before .before))
+
+-- the tally with the item found, by either way
+stepped : (c : tie.After-struct-known Inv-loop μ-loop) →
+    let d = c .before .before .before .before in
+    let a = d .before .before .before in
+    let T = a .before .before .before .loop .tally in
+    let i = d .before .item .given .0 .0 in
+    let s = a .before .before .before .before .before .before .args in
+    tallySaid (c .before .if2 .tally) ≡ withHeader (tallySaid T) i (faultIn (s .known) (T .seen) (itemBy (s .packet .now) i))
+stepped c =
+    let d = c .before .before .before .before in
+    let a = d .before .before .before in
+    let T = tallySaid (a .before .before .before .loop .tally) in
+    let i = d .before .item .given .0 .0 in
+    let s = a .before .before .before .before .before .before .args in
+    ⊎-elim
+    (λ w. ap tallySaid (w .2) ∙ (w .1 .ensures ∙ ap (withHeader T i) (plain-clean (s .known) (T .seen) (s .packet .now) i (lies d .inside) (sym (c .before .before .is-plain .ensures) ∙ w .0 .taken))))
+    (λ w. ap tallySaid (w .3) ∙ (w .2 .ensures ∙ ap (withHeader T i) (w .1 .ensures)))
+    (c .before .if2 .came)
 
 loop-again : tie.Need-loop-again Inv-loop μ-loop
 loop-again c =
-    let d = c .before .before .before in
+    let d = c .before .before .before .before in
     let a = d .before .before .before in
     let l = a .before .before .before .loop in
     let i = d .before .item .given .0 .0 in
@@ -90,14 +117,14 @@ loop-again c =
     let K = a .before .before .before .before .before .before .args .known in
     let m : ℕ = 128 - (l .tally .count + 1) in
     let e = left (l .tally .count) (l .inv .0) (a .before .if1 .left) in
-    let said = c .before .with-item .ensures in
-    let count : c .before .with-item .result .count ≡ l .tally .count + 1 = ap (λ T. T .count) said in
+    let said = stepped c in
+    let count : c .before .if2 .tally .count ≡ l .tally .count + 1 = ap (λ T. T .count) said in
     let step = tallied-before K (tallySaid (l .tally)) (itemBy p i) (walk m (i .place + i .size) (drop (i .place + i .size) p)) in
     let went = ap (tallied K (tallySaid (l .tally))) (walk-item p (l .here) (a .before .before .loop-test .taken) m i (found d)) in
-    let now = rw (header-back p i (lies d .inside), ← c .before .before .fault-at .ensures) at (sym step ∙ (sym went ∙ rw e at (l .inv .1))) in
+    let now = rw (header-back p i (lies d .inside)) at (sym step ∙ (sym went ∙ rw e at (l .inv .1))) in
     let next : ℕ = i .place + i .size in (
       omega arith,
-      ap (λ n. tallied K (tallySaid (c .before .with-item .result)) (walk (128 - n) next (drop next p))) count
+      ap (λ n. tallied K (tallySaid (c .before .if2 .tally)) (walk (128 - n) next (drop next p))) count
           ∙ (ap (λ T. tallied K T (walk m next (drop next p))) said ∙ now),
     )
 
@@ -119,8 +146,10 @@ walk-from-spec =
     enum-known-refusal
     returns-2
     enum-known-item
-    fault-at-requires
+    is-plain-requires
     with-item-requires
+    fault-at-requires
+    with-item-requires-2
     add-here
     loop-less
     loop-again
