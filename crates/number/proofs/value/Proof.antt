@@ -1,71 +1,70 @@
--- `number::value` meets its contract: the value so far, gone on with the bytes that are left, is the value of all, modulo 2 ^ 64.
+-- `number::value` meets its contract.
 -- Assumes nothing.
-use mathlib.Core.Path.{_≡_, refl, _∙_}
-use Prim.Native.Nat.{_+_, _*_, _-_, _%_, _^_, _<_, _≤_}
+use Prim.Native.Nat.{_+_, _*_}
 use native.Mathlib.Omega.{arith}
+use mathlib.Core.Path.{ap₂, sym, _∙_}
 use borrow.Author.Needs.{needs}
-use lib.ListN.{length, drop, getD}
-use Rattle.base.specs.Parts.{cons-at, nil-at}
-use Rattle.number.specs.Stored.{valueFrom, valueOf}
-use Rattle.number.proofs.Laws.{value-wraps}
+use Rattle.number.proofs.Widths.{one-taken, joined, all-taken}
 use Rattle.number.proofs.value.Statement.{statement}
 use Rattle.number.proofs.value.Tie as tie
 
-abbrev Inv-loop : tie.InvT-loop
-Inv-loop s v₀ i₀ v i = (i ≤ length s) × (v < 2 ^ 64) × (valueFrom v (drop i s) % 2 ^ 64 ≡ valueOf s % 2 ^ 64)
+two-at-requires : tie.Need-two-at-requires
+two-at-requires c κs = search needs
 
-abbrev μ-loop : tie.MeasureT-loop
-μ-loop s v₀ i₀ v i = length s - i
+returns : tie.Need-returns
+returns c = all-taken 2 _ (c .before .if1 .taken) (omega arith) (c .two-at .ensures .0)
 
-loop-holds : tie.Need-loop-holds Inv-loop μ-loop
-loop-holds c = (omega arith, omega arith, refl)
+four-at-requires : tie.Need-four-at-requires
+four-at-requires c κs = search needs
 
-shared-slice-read-wide : tie.Need-shared-slice-read-wide Inv-loop μ-loop
+returns-2 : tie.Need-returns-2
+returns-2 c = all-taken 4 _ (c .before .if2 .taken) (omega arith) (c .four-at .ensures .0)
+
+shared-slice-read-wide : tie.Need-shared-slice-read-wide
 shared-slice-read-wide c = search needs
 
-wide-requires : tie.Need-wide-requires Inv-loop μ-loop
+wide-requires : tie.Need-wide-requires
 wide-requires c κs = search needs
 
-mul-v : tie.Need-mul-v Inv-loop μ-loop
-mul-v c = search needs
+returns-3 : tie.Need-returns-3
+returns-3 c = let s = c .before .before .before .before .before .before .args .s .now in all-taken 1 s (c .before .before .if3 .taken) (omega arith) (c .wide .ensures .0 ∙ sym (one-taken 0 s (omega arith)))
 
-add-v : tie.Need-add-v Inv-loop μ-loop
-add-v c = search needs
+four-at-requires-2 : tie.Need-four-at-requires-2
+four-at-requires-2 c κs = search needs
 
-add-i : tie.Need-add-i Inv-loop μ-loop
-add-i c = search needs
+four-at-requires-3 : tie.Need-four-at-requires-3
+four-at-requires-3 c κs = search needs
 
-loop-less : tie.Need-loop-less Inv-loop μ-loop
-loop-less c = search needs
+mul-result : tie.Need-mul-result
+mul-result c = search needs
 
-loop-again : tie.Need-loop-again Inv-loop μ-loop
-unfolding valueFrom
-loop-again c =
-    let l = c .before .before .before .loop in
-    let s = c .before .before .before .before .before .args .s .now in
-    let before = rw (cons-at s (l .i) (omega arith)) at (l .inv .2) in
-    let same = value-wraps (l .v % 2 ^ 56 * 256 + c .wide .result) (l .v * 256 + getD s (l .i) 0) (drop (l .i + 1) s) (omega arith) in
-    (omega arith, omega arith, same ∙ before)
+add-result : tie.Need-add-result
+add-result c = search needs
 
-returns : tie.Need-returns Inv-loop μ-loop
-unfolding valueFrom
-returns c =
-    let l = c .before .loop in
-    let s = c .before .before .before .args .s .now in
-    omega (arith, rw (nil-at s (l .i) (omega arith)) at (l .inv .2))
+returns-4 : tie.Need-returns-4
+returns-4 c = let s = c .before .before .before .before .before .before .before .args .s .now in all-taken 8 s (c .before .before .if4 .taken) (omega arith) (ap₂ (λ x y. x * 0x100000000 + y) (c .before .four-at2 .ensures .0) (c .four-at3 .ensures .0) ∙ joined 4 4 0 s (omega arith))
+
+of-any-length-requires : tie.Need-of-any-length-requires
+of-any-length-requires c κs = search needs
+
+returns-5 : tie.Need-returns-5
+returns-5 c = search needs
 
 pub value-spec : {M : Type 1} → statement M
 value-spec =
     tie.close
     (tie.spec
-    Inv-loop
-    μ-loop
-    loop-holds
+    two-at-requires
+    returns
+    four-at-requires
+    returns-2
     shared-slice-read-wide
     wide-requires
-    mul-v
-    add-v
-    add-i
-    loop-less
-    loop-again
-    returns)
+    returns-3
+    four-at-requires-2
+    four-at-requires-3
+    mul-result
+    add-result
+    returns-4
+    of-any-length-requires
+    returns-5)
