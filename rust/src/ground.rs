@@ -1,0 +1,124 @@
+use crate::raw;
+use crate::{Knowing, Refusal};
+
+/// A height over the ellipsoid, in millimetres.
+#[derive(Clone, Copy, Debug, PartialEq, Eq, PartialOrd, Ord, Hash)]
+pub struct EllipsoidHeight(pub i64);
+
+/// A height over mean sea level, in millimetres.
+#[derive(Clone, Copy, Debug, PartialEq, Eq, PartialOrd, Ord, Hash)]
+pub struct SeaLevelHeight(pub i64);
+
+/// A height with the kind that it was. Nothing here turns one kind into the other: the difference depends on the place.
+#[derive(Clone, Copy, Debug, PartialEq, Eq, Hash)]
+#[non_exhaustive]
+pub enum Height {
+    /// Over the ellipsoid.
+    OverEllipsoid(EllipsoidHeight),
+    /// Over mean sea level.
+    OverSeaLevel(SeaLevelHeight),
+    /// The packet has none that the receiver knows.
+    Missing,
+}
+
+/// A point on the ground, in ten-millionths of a degree.
+#[derive(Clone, Copy, Debug, PartialEq, Eq, Hash)]
+pub struct Point {
+    /// North of the equator, negative to the south.
+    pub latitude: i64,
+    /// East of Greenwich, negative to the west.
+    pub longitude: i64,
+}
+
+/// A corner of the picture on the ground.
+#[derive(Clone, Copy, Debug, PartialEq, Eq, Hash)]
+#[non_exhaustive]
+pub enum Corner {
+    /// At this point.
+    At(Point),
+    /// The drone said that this corner looks above the horizon: there is no pin to draw.
+    OffTheEarth,
+    /// The packet has none that the receiver knows.
+    Missing,
+}
+
+/// How high the sensor is: by item 75, over the ellipsoid, if the packet has it, else by item 15, over mean sea level.
+///
+/// ```
+/// use oysterknoll::{sensor_height, EllipsoidHeight, Height, Knowing, SeaLevelHeight};
+///
+/// let packet = include_bytes!("../../samples/tower.klv");
+/// let height = sensor_height(packet, Knowing::ALL)?;
+/// assert_eq!(height, Height::OverEllipsoid(EllipsoidHeight(689_935)));
+///
+/// // A receiver that does not know item 75.
+/// let height = sensor_height(packet, Knowing::ALL.without(75))?;
+/// assert_eq!(height, Height::OverSeaLevel(SeaLevelHeight(641_958)));
+/// # Ok::<(), oysterknoll::Refusal>(())
+/// ```
+pub fn sensor_height(packet: &[u8], knowing: Knowing) -> Result<Height, Refusal> {
+    raw::sensor_height(packet, knowing)
+        .accepted()
+        .map(height_of)
+}
+
+/// How high the frame centre is: by item 78, over the ellipsoid, if the packet has it, else by item 25, over mean sea level.
+///
+/// ```
+/// use oysterknoll::{frame_centre_height, EllipsoidHeight, Height, Knowing};
+///
+/// let packet = include_bytes!("../../samples/tower.klv");
+/// let height = frame_centre_height(packet, Knowing::ALL)?;
+/// assert_eq!(height, Height::OverEllipsoid(EllipsoidHeight(649_549)));
+///
+/// let least = frame_centre_height(packet, Knowing::LEAST)?;
+/// assert_eq!(least, Height::Missing);
+/// # Ok::<(), oysterknoll::Refusal>(())
+/// ```
+pub fn frame_centre_height(packet: &[u8], knowing: Knowing) -> Result<Height, Refusal> {
+    raw::frame_centre_height(packet, knowing)
+        .accepted()
+        .map(height_of)
+}
+
+/// Where corner k of the picture is, k from 1 to 4 (upper left, upper right, lower right, lower left). Any other k is missing.
+///
+/// By the full items 80 + 2k and 81 + 2k if both are there, else by the frame centre (23 and 24) plus the offsets 24 + 2k and
+/// 25 + 2k if all four are there. A mark in any row used is off the Earth.
+///
+/// ```
+/// use oysterknoll::{corner, Corner, Knowing, Point};
+///
+/// let packet = include_bytes!("../../samples/tower.klv");
+/// assert_eq!(corner(packet, Knowing::ALL, 1)?, Corner::OffTheEarth);
+/// assert_eq!(
+///     corner(packet, Knowing::ALL, 3)?,
+///     Corner::At(Point { latitude: 469_001_577, longitude: 83_008_305 }),
+/// );
+/// assert_eq!(corner(packet, Knowing::ALL, 5)?, Corner::Missing);
+/// # Ok::<(), oysterknoll::Refusal>(())
+/// ```
+pub fn corner(packet: &[u8], knowing: Knowing, k: u64) -> Result<Corner, Refusal> {
+    raw::corner(packet, knowing, k).accepted().map(corner_of)
+}
+
+/// The library's kinds of a height are the three listed; any other would be missing too.
+fn height_of(answer: raw::Answer) -> Height {
+    match answer.kind {
+        raw::OVER_ELLIPSOID => Height::OverEllipsoid(EllipsoidHeight(answer.value)),
+        raw::OVER_SEA_LEVEL => Height::OverSeaLevel(SeaLevelHeight(answer.value)),
+        raw::MISSING | _ => Height::Missing,
+    }
+}
+
+/// The library's kinds of a corner are the three listed; any other would be missing too.
+fn corner_of(answer: raw::Answer) -> Corner {
+    match answer.kind {
+        raw::POINT => Corner::At(Point {
+            latitude: answer.value,
+            longitude: answer.second,
+        }),
+        raw::OFF_THE_EARTH => Corner::OffTheEarth,
+        raw::MISSING | _ => Corner::Missing,
+    }
+}

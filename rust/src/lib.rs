@@ -1,0 +1,143 @@
+//! MISB ST 0601 packets, the metadata that travels with drone video, read, judged, written and sent on.
+//!
+//! The work is done by a proved library: what each function answers is defined in the project's scope paper ("document 01") and
+//! proved of the library's code. This crate is a thin safe cover over its C functions. It adds no rule of its own, allocates
+//! nothing and needs nothing but `core`.
+//!
+//! Every input gets an answer: an accepted packet its values, any other bytes a [`Refusal`] by reason, place and tag. No function
+//! has to be told anything true first, none panics, and a refusal leaves all memory lent as it was.
+//!
+//! ```
+//! use oysterknoll::{corner, Corner, Knowing, Point};
+//!
+//! let packet = include_bytes!("../../samples/tower.klv");
+//! match corner(packet, Knowing::ALL, 3) {
+//!     Ok(Corner::At(Point { latitude, longitude })) => {
+//!         assert_eq!((latitude, longitude), (469_001_577, 83_008_305)); // in ten-millionths of a degree
+//!     }
+//!     Ok(Corner::OffTheEarth) => println!("the corner looks above the horizon"),
+//!     Ok(_) => println!("the packet has no such corner"),
+//!     Err(refusal) => println!("{refusal}"),
+//! }
+//! ```
+//!
+//! # Linking
+//!
+//! The library is an archive of x86-64 machine code for Linux, since that is what is proved; on another target the build stops and
+//! says so. `rt staticlib oysterknoll` at the root of the repository makes it, and the crate finds it there. An archive that stands
+//! elsewhere is named by its folder in `OYSTERKNOLL_LIB_DIR`.
+//!
+//! # House units
+//!
+//! Values are whole numbers of 10^-7 degree, mm, mm/s, 0.001 mbar, 0.001 percent or 0.001 degree C.
+
+#![no_std]
+#![deny(missing_docs)]
+#![deny(unsafe_code)]
+#![deny(unsafe_op_in_unsafe_fn)]
+#![deny(clippy::arithmetic_side_effects)]
+#![deny(clippy::indexing_slicing)]
+#![deny(clippy::expect_used, clippy::panic, clippy::unwrap_used)]
+
+mod ground;
+mod knowing;
+mod raw;
+mod refusal;
+mod rows;
+
+pub use ground::{
+    corner, frame_centre_height, sensor_height, Corner, EllipsoidHeight, Height, Point,
+    SeaLevelHeight,
+};
+pub use knowing::Knowing;
+pub use refusal::{Reason, Refusal};
+pub use rows::{read, take_row, write, Content, Row, Rows, RowsIter};
+
+/// The words of a table that [`read`] fills: four for each of at most 128 rows.
+pub const TABLE_WORDS: usize = 512;
+
+/// The bytes of the longest packet; an output of so many is never too short for [`write`] and [`forward`].
+pub const LONGEST_PACKET: usize = 8192;
+
+/// No listing has more bytes; an output of so many is never too short for [`list`].
+pub const LONGEST_LISTING: usize = 21781;
+
+/// Judges a packet, and answers how many items it has.
+///
+/// ```
+/// use oysterknoll::{check, Knowing};
+///
+/// let packet = [
+///     0x06, 0x0e, 0x2b, 0x34, 0x02, 0x0b, 0x01, 0x01, 0x0e, 0x01, 0x03, 0x01, 0x01, 0x00, 0x00, 0x00, // key
+///     17, // bytes to come
+///     2, 8, 0, 0, 0, 0, 0, 0, 0, 1, // time stamp
+///     65, 1, 17, // version
+///     1, 2, 0x62, 0xa6, // checksum
+/// ];
+/// assert_eq!(check(&packet, Knowing::ALL), Ok(3));
+/// ```
+pub fn check(packet: &[u8], knowing: Knowing) -> Result<usize, Refusal> {
+    Ok(raw::check(packet, knowing).accepted()?.count as usize)
+}
+
+/// Sends a packet on: reads it, and writes all its rows at the front of `out`. Answers the number of bytes written.
+///
+/// What the receiver does not know is handed on unharmed. Lengths take their shortest form; bytes after the packet stay; a refusal
+/// changes nothing.
+///
+/// ```
+/// use oysterknoll::{forward, Knowing, LONGEST_PACKET};
+///
+/// let packet = include_bytes!("../../samples/tower.klv");
+/// let mut out = [0; LONGEST_PACKET];
+/// let size = forward(packet, Knowing::LEAST, &mut out)?;
+/// assert_eq!(&out[..size], packet);
+/// # Ok::<(), oysterknoll::Refusal>(())
+/// ```
+pub fn forward(packet: &[u8], knowing: Knowing, out: &mut [u8]) -> Result<usize, Refusal> {
+    Ok(raw::forward(packet, knowing, out).accepted()?.count as usize)
+}
+
+/// Turns a stored code into house units, to the nearest.
+///
+/// ```
+/// use oysterknoll::{to_house, Reason};
+///
+/// assert_eq!(to_house(64, 0xddc5), Ok(3_118_681_621)); // magnetic heading, 311.8681621 degrees
+/// assert_eq!(to_house(26, 0x8000).unwrap_err().reason, Reason::NotANumber); // a mark
+/// ```
+pub fn to_house(tag: u64, code: u64) -> Result<i64, Refusal> {
+    Ok(raw::to_house(tag, code).accepted()?.value)
+}
+
+/// Turns a value in house units into the nearest code.
+///
+/// ```
+/// use oysterknoll::{to_code, Reason};
+///
+/// assert_eq!(to_code(36, 10_000), Ok(26)); // wind speed, 10 m/s
+/// assert_eq!(to_code(36, 9_999), Ok(25));
+/// assert_eq!(to_code(36, 100_001).unwrap_err().reason, Reason::ValueOutOfRange);
+/// ```
+pub fn to_code(tag: u64, value: i64) -> Result<u64, Refusal> {
+    Ok(raw::to_code(tag, value).accepted()?.count)
+}
+
+/// Lists a packet as text at the front of `out`, one line an item, and answers the number of bytes.
+///
+/// The whole catalogue is known. Fields are parted by tabs, and every line ends with a newline byte. An output that is too short
+/// is refused by [`Reason::OutputTooShort`]; a refusal changes nothing.
+///
+/// ```
+/// use oysterknoll::{list, LONGEST_LISTING};
+///
+/// let packet = include_bytes!("../../samples/smallest.klv");
+/// let mut out = [0; LONGEST_LISTING];
+/// let size = list(packet, &mut out)?;
+/// let listing = "place\ttag\tkind\tvalue\n19\t2\tnumber\t1\n29\t65\tnumber\t17\n32\t1\tnumber\t25254\n";
+/// assert_eq!(&out[..size], listing.as_bytes());
+/// # Ok::<(), oysterknoll::Refusal>(())
+/// ```
+pub fn list(packet: &[u8], out: &mut [u8]) -> Result<usize, Refusal> {
+    Ok(raw::list(packet, out).accepted()?.count as usize)
+}
