@@ -10,6 +10,19 @@ pub struct EllipsoidHeight(pub i64);
 pub struct SeaLevelHeight(pub i64);
 
 /// A height with the kind that it was. Nothing here turns one kind into the other: the difference depends on the place.
+///
+/// ```
+/// use oysterknoll::{sensor_height, EllipsoidHeight, Height, Knowing, SeaLevelHeight};
+///
+/// let packet = include_bytes!("../../samples/tower.klv");
+/// let said = match sensor_height(packet, Knowing::ALL)? {
+///     Height::OverEllipsoid(EllipsoidHeight(mm)) => format!("{mm} mm over the ellipsoid"),
+///     Height::OverSeaLevel(SeaLevelHeight(mm)) => format!("{mm} mm over mean sea level"),
+///     _ => "missing".to_string(),
+/// };
+/// assert_eq!(said, "689935 mm over the ellipsoid");
+/// # Ok::<(), oysterknoll::Refusal>(())
+/// ```
 #[derive(Clone, Copy, Debug, PartialEq, Eq, Hash)]
 #[non_exhaustive]
 pub enum Height {
@@ -31,6 +44,19 @@ pub struct Point {
 }
 
 /// A corner of the picture on the ground.
+///
+/// ```
+/// use oysterknoll::{corner, Corner, Knowing};
+///
+/// // Corner 2 of the tower looks above the horizon, whatever its offsets say.
+/// let packet = include_bytes!("../../samples/tower.klv");
+/// let pin = match corner(packet, Knowing::ALL, 2)? {
+///     Corner::At(point) => Some(point),
+///     _ => None,
+/// };
+/// assert_eq!(pin, None);
+/// # Ok::<(), oysterknoll::Refusal>(())
+/// ```
 #[derive(Clone, Copy, Debug, PartialEq, Eq, Hash)]
 #[non_exhaustive]
 pub enum Corner {
@@ -43,6 +69,12 @@ pub enum Corner {
 }
 
 /// How high the sensor is: by item 75, over the ellipsoid, if the packet has it, else by item 15, over mean sea level.
+///
+/// # Errors
+///
+/// The reader's refusals, but for 2: those with numbers 1 and 3 to 15.
+///
+/// # Example
 ///
 /// ```
 /// use oysterknoll::{sensor_height, EllipsoidHeight, Height, Knowing, SeaLevelHeight};
@@ -63,6 +95,12 @@ pub fn sensor_height(packet: &[u8], knowing: Knowing) -> Result<Height, Refusal>
 }
 
 /// How high the frame centre is: by item 78, over the ellipsoid, if the packet has it, else by item 25, over mean sea level.
+///
+/// # Errors
+///
+/// The reader's refusals, but for 2: those with numbers 1 and 3 to 15.
+///
+/// # Example
 ///
 /// ```
 /// use oysterknoll::{frame_centre_height, EllipsoidHeight, Height, Knowing};
@@ -86,6 +124,12 @@ pub fn frame_centre_height(packet: &[u8], knowing: Knowing) -> Result<Height, Re
 /// By the full items 80 + 2k and 81 + 2k if both are there, else by the frame centre (23 and 24) plus the offsets 24 + 2k and
 /// 25 + 2k if all four are there. A mark in any row used is off the Earth.
 ///
+/// # Errors
+///
+/// The reader's refusals, but for 2: those with numbers 1 and 3 to 15.
+///
+/// # Example
+///
 /// ```
 /// use oysterknoll::{corner, Corner, Knowing, Point};
 ///
@@ -102,16 +146,16 @@ pub fn corner(packet: &[u8], knowing: Knowing, k: u64) -> Result<Corner, Refusal
     raw::corner(packet, knowing, k).accepted().map(corner_of)
 }
 
-/// The library's kinds of a height are the three listed; any other would be missing too.
+/// The height that an answer is: kind 0 is missing, and a kind that the library does not have would be missing too.
 fn height_of(answer: raw::Answer) -> Height {
     match answer.kind {
         raw::OVER_ELLIPSOID => Height::OverEllipsoid(EllipsoidHeight(answer.value)),
         raw::OVER_SEA_LEVEL => Height::OverSeaLevel(SeaLevelHeight(answer.value)),
-        raw::MISSING | _ => Height::Missing,
+        _ => Height::Missing,
     }
 }
 
-/// The library's kinds of a corner are the three listed; any other would be missing too.
+/// The corner that an answer is: kind 0 is missing, and a kind that the library does not have would be missing too.
 fn corner_of(answer: raw::Answer) -> Corner {
     match answer.kind {
         raw::POINT => Corner::At(Point {
@@ -119,6 +163,6 @@ fn corner_of(answer: raw::Answer) -> Corner {
             longitude: answer.second,
         }),
         raw::OFF_THE_EARTH => Corner::OffTheEarth,
-        raw::MISSING | _ => Corner::Missing,
+        _ => Corner::Missing,
     }
 }

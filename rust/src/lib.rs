@@ -64,6 +64,12 @@ pub const LONGEST_LISTING: usize = 21781;
 
 /// Judges a packet, and answers how many items it has.
 ///
+/// # Errors
+///
+/// The reader's refusals, but for 2: those with numbers 1 and 3 to 15.
+///
+/// # Example
+///
 /// ```
 /// use oysterknoll::{check, Knowing};
 ///
@@ -77,13 +83,19 @@ pub const LONGEST_LISTING: usize = 21781;
 /// assert_eq!(check(&packet, Knowing::ALL), Ok(3));
 /// ```
 pub fn check(packet: &[u8], knowing: Knowing) -> Result<usize, Refusal> {
-    Ok(raw::check(packet, knowing).accepted()?.count as usize)
+    Ok(raw::check(packet, knowing).accepted()?.size())
 }
 
 /// Sends a packet on: reads it, and writes all its rows at the front of `out`. Answers the number of bytes written.
 ///
 /// What the receiver does not know is handed on unharmed. Lengths take their shortest form; bytes after the packet stay; a refusal
 /// changes nothing.
+///
+/// # Errors
+///
+/// The reader's refusals, but for 2, and then the writer's; of these only 18 is left, since a packet that was read can be written.
+///
+/// # Example
 ///
 /// ```
 /// use oysterknoll::{forward, Knowing, LONGEST_PACKET};
@@ -95,10 +107,16 @@ pub fn check(packet: &[u8], knowing: Knowing) -> Result<usize, Refusal> {
 /// # Ok::<(), oysterknoll::Refusal>(())
 /// ```
 pub fn forward(packet: &[u8], knowing: Knowing, out: &mut [u8]) -> Result<usize, Refusal> {
-    Ok(raw::forward(packet, knowing, out).accepted()?.count as usize)
+    Ok(raw::forward(packet, knowing, out).accepted()?.size())
 }
 
 /// Turns a stored code into house units, to the nearest.
+///
+/// # Errors
+///
+/// 19 for a tag without scale, 20 for a code that is a mark or too wide; the tag is the one given.
+///
+/// # Example
 ///
 /// ```
 /// use oysterknoll::{to_house, Reason};
@@ -111,6 +129,12 @@ pub fn to_house(tag: u64, code: u64) -> Result<i64, Refusal> {
 }
 
 /// Turns a value in house units into the nearest code.
+///
+/// # Errors
+///
+/// 19 for a tag without scale, 21 for a value outside the range; the tag is the one given.
+///
+/// # Example
 ///
 /// ```
 /// use oysterknoll::{to_code, Reason};
@@ -125,8 +149,14 @@ pub fn to_code(tag: u64, value: i64) -> Result<u64, Refusal> {
 
 /// Lists a packet as text at the front of `out`, one line an item, and answers the number of bytes.
 ///
-/// The whole catalogue is known. Fields are parted by tabs, and every line ends with a newline byte. An output that is too short
-/// is refused by [`Reason::OutputTooShort`]; a refusal changes nothing.
+/// The whole catalogue is known. Fields are parted by tabs, and every line ends with a newline byte. A refusal
+/// changes nothing.
+///
+/// # Errors
+///
+/// The reader's refusals, but for 2, and 18 for an output that is shorter than the listing.
+///
+/// # Example
 ///
 /// ```
 /// use oysterknoll::{list, LONGEST_LISTING};
@@ -139,5 +169,5 @@ pub fn to_code(tag: u64, value: i64) -> Result<u64, Refusal> {
 /// # Ok::<(), oysterknoll::Refusal>(())
 /// ```
 pub fn list(packet: &[u8], out: &mut [u8]) -> Result<usize, Refusal> {
-    Ok(raw::list(packet, out).accepted()?.count as usize)
+    Ok(raw::list(packet, out).accepted()?.size())
 }

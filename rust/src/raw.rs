@@ -20,16 +20,32 @@ pub struct Answer {
     pub second: i64,
 }
 
+// `build.rs` lets no other target through, so a word is a size.
+const _: () = assert!(usize::BITS == u64::BITS);
+
+impl Answer {
+    /// The count as a size.
+    pub const fn size(self) -> usize {
+        self.count as usize
+    }
+
+    /// The place as a size.
+    pub const fn start(self) -> usize {
+        self.place as usize
+    }
+}
+
 // The kinds of a row.
 pub const READING: u64 = 1;
 pub const MARK: u64 = 2;
 pub const TEXT: u64 = 3;
 pub const CARRIED: u64 = 4;
 
-// The kinds of a height and of a corner, both of which may be missing.
-pub const MISSING: u64 = 0;
+// The kinds of a height that is not missing.
 pub const OVER_ELLIPSOID: u64 = 1;
 pub const OVER_SEA_LEVEL: u64 = 2;
+
+// The kinds of a corner that is not missing.
 pub const POINT: u64 = 1;
 pub const OFF_THE_EARTH: u64 = 2;
 

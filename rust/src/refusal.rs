@@ -129,7 +129,7 @@ impl Answer {
             0 => Ok(self),
             number => Err(Refusal {
                 reason: Reason::from_number(number).unwrap_or(Reason::Unlisted(number)),
-                place: self.place as usize,
+                place: self.start(),
                 tag: self.tag,
             }),
         }

@@ -17,6 +17,25 @@ pub struct Row<'a> {
 }
 
 /// What an item holds, as the receiver sees it.
+///
+/// ```
+/// use oysterknoll::{to_house, Content, Row};
+///
+/// fn say(row: Row) -> String {
+///     match row.content {
+///         Content::Reading(code) => match to_house(row.tag, code) {
+///             Ok(value) => format!("item {}: {value}", row.tag),
+///             Err(_) => format!("item {}: code {code}, which has no scale", row.tag),
+///         },
+///         Content::Mark => format!("item {}: marked", row.tag),
+///         Content::Text(bytes) => format!("item {}: {}", row.tag, String::from_utf8_lossy(bytes)),
+///         _ => format!("item {}: not known here", row.tag),
+///     }
+/// }
+///
+/// assert_eq!(say(Row { tag: 39, content: Content::Reading(0x80) }), "item 39: -128000");
+/// assert_eq!(say(Row { tag: 11, content: Content::Text(b"EO") }), "item 11: EO");
+/// ```
 #[derive(Clone, Copy, Debug, PartialEq, Eq, Hash)]
 #[non_exhaustive]
 pub enum Content<'a> {
@@ -30,7 +49,20 @@ pub enum Content<'a> {
     Carried(&'a [u8]),
 }
 
-/// The rows of a packet that was read. Each value is a part of the packet.
+/// The rows of a packet that was read, by [`read`]. Each value is a part of the packet.
+///
+/// ```
+/// use oysterknoll::{read, Content, Knowing, TABLE_WORDS};
+///
+/// let packet = include_bytes!("../../samples/smallest.klv");
+/// let mut table = [0; TABLE_WORDS];
+/// let rows = read(packet, Knowing::ALL, &mut table)?;
+/// assert_eq!(rows.len(), 3);
+/// assert_eq!(rows.get(1).map(|row| row.content), Some(Content::Reading(17)));
+/// let tags: Vec<u64> = rows.iter().map(|row| row.tag).collect();
+/// assert_eq!(tags, [2, 65, 1]);
+/// # Ok::<(), oysterknoll::Refusal>(())
+/// ```
 #[derive(Clone, Copy)]
 pub struct Rows<'a> {
     packet: &'a [u8],
@@ -42,6 +74,12 @@ pub struct Rows<'a> {
 ///
 /// An accepted packet fills the table row after row and sets the rest of the first 512 words to zero; words beyond stay. A refusal
 /// changes nothing.
+///
+/// # Errors
+///
+/// The reader's refusals: those with numbers 1 to 15.
+///
+/// # Example
 ///
 /// ```
 /// use oysterknoll::{read, Content, Knowing, TABLE_WORDS};
@@ -58,7 +96,7 @@ pub fn read<'a>(
     knowing: Knowing,
     table: &'a mut [u64],
 ) -> Result<Rows<'a>, Refusal> {
-    let count = raw::read(packet, knowing, table).accepted()?.count as usize;
+    let count = raw::read(packet, knowing, table).accepted()?.size();
     // The library's rows always fit the table; were there more, there would be none.
     let words = count
         .checked_mul(WORDS_A_ROW)
@@ -156,6 +194,12 @@ impl FusedIterator for RowsIter<'_> {}
 
 /// Takes row n out of the `count` rows in `words`. Text and carried rows give their part of the buffer.
 ///
+/// # Errors
+///
+/// 1, 16, and 17 where that row is bad; a row number from `count` on gets 17 with tag 0.
+///
+/// # Example
+///
 /// ```
 /// use oysterknoll::{take_row, Content, Knowing, Reason};
 ///
@@ -177,7 +221,7 @@ pub fn take_row<'a>(
 ) -> Result<Row<'a>, Refusal> {
     let row = raw::row(words, count, n, buffer, knowing).accepted()?;
     let tag = row.tag;
-    let part = || part_of(buffer, row.place as usize, row.count as usize);
+    let part = || part_of(buffer, row.start(), row.size());
     let content = match row.kind {
         raw::READING => Some(Content::Reading(row.count)),
         raw::MARK => Some(Content::Mark),
@@ -204,6 +248,12 @@ fn part_of(buffer: &[u8], place: usize, length: usize) -> Option<&[u8]> {
 /// Text and carried rows point into `buffer`. The order of the rows is kept, lengths take their shortest form, and the checksum is
 /// worked out afresh. Bytes after the packet stay; a refusal changes nothing.
 ///
+/// # Errors
+///
+/// The writer's refusals: 1, 16, 17, 3, 9, 10, 12 to 15 and 18, in this order; the place is a row number.
+///
+/// # Example
+///
 /// ```
 /// use oysterknoll::{read, write, Knowing, LONGEST_PACKET, TABLE_WORDS};
 ///
@@ -223,5 +273,5 @@ pub fn write(
     out: &mut [u8],
 ) -> Result<usize, Refusal> {
     let written = raw::write(words, count, buffer, knowing, out).accepted()?;
-    Ok(written.count as usize)
+    Ok(written.size())
 }
