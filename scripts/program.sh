@@ -1,15 +1,20 @@
 # Builds the programs of this repository and starts them. To be sourced from the repository's root.
 
-# Proves and builds the programs named; what rt prints is shown only where it fails.
-build() {
+# Runs a command, and shows what it prints only where it fails.
+quietly() {
     local log
     log=$(mktemp)
-    rt check "$@" >"$log" 2>&1 || {
+    "$@" >"$log" 2>&1 || {
         cat "$log" >&2
         rm "$log"
         return 1
     }
     rm "$log"
+}
+
+# Proves and builds the programs named.
+build() {
+    quietly rt check "$@"
 }
 
 # Starts a built program as rt does: under the kit's loader, and where the processor is another than x86-64 under its emulator.

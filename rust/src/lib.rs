@@ -56,7 +56,7 @@ pub use rows::{read, take_row, write, Content, Row, Rows, RowsIter};
 /// The words of a table that [`read`] fills: four for each of at most 128 rows.
 pub const TABLE_WORDS: usize = 512;
 
-/// The bytes of the longest packet; an output of so many is never too short for [`write`] and [`forward`].
+/// The bytes of the longest packet; an output of so many is never too short for [`write()`] and [`forward`].
 pub const LONGEST_PACKET: usize = 8192;
 
 /// No listing has more bytes; an output of so many is never too short for [`list`].

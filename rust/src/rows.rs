@@ -133,7 +133,7 @@ impl<'a> Rows<'a> {
         }
     }
 
-    /// The words of the rows, four a row, as [`write`] takes them.
+    /// The words of the rows, four a row, as [`write()`] takes them.
     pub const fn words(&self) -> &'a [u64] {
         self.words
     }
