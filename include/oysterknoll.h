@@ -12,7 +12,8 @@
  * is given to a function: what is not accepted is refused by number, place and tag.
  *
  * Memory
- *   - All memory lent stays the caller's. Nothing is allocated, and no pointer is kept after a call.
+ *   - All memory lent stays the caller's. Nothing is allocated, and nothing is kept after a call, so that threads may call at the same
+ *     time. Of the C library no more is needed than memcmp, memcpy, memmove and memset.
  *   - A pointer is followed by its length, in elements. It is good for so many, aligned for its type, and not NULL even where the
  *     length is 0.
  *   - What is lent as const is only read. Inputs may overlap each other; an output may not overlap any input.

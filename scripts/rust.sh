@@ -26,11 +26,11 @@ prepare() {
     for package in "${cross_packages[@]}"; do
         [[ $(dpkg-query -W -f '${db:Status-Abbrev}' "$package" 2>&1) == ii* ]] || missing+=("$package")
     done
-    [ ${#missing[@]} -eq 0 ] || install "${missing[@]}"
+    [ ${#missing[@]} -eq 0 ] || install_packages "${missing[@]}"
 }
 
 # Installs Debian packages, those for amd64 among them.
-install() {
+install_packages() {
     [ "$(id -u)" -eq 0 ] || { echo "missing on this machine, for root to install: $*" >&2; return 1; }
     quietly dpkg --add-architecture amd64 && quietly apt-get update && quietly apt-get install -y --no-install-recommends "$@"
 }

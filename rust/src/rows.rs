@@ -97,7 +97,7 @@ pub fn read<'a>(
     table: &'a mut [u64],
 ) -> Result<Rows<'a>, Refusal> {
     let count = raw::read(packet, knowing, table).accepted()?.size();
-    // The library's rows always fit the table; were there more, there would be none.
+    // The library's rows always fit the table; if they did not, none would be handed out.
     let words = count
         .checked_mul(WORDS_A_ROW)
         .and_then(|end| table.get(..end))
