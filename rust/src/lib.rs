@@ -53,6 +53,11 @@ pub use knowing::Knowing;
 pub use refusal::{Reason, Refusal};
 pub use rows::{read, take_row, write, Content, Row, Rows, RowsIter};
 
+/// The examples of the README are run too.
+#[cfg(doctest)]
+#[doc = include_str!("../README.md")]
+struct Readme;
+
 /// The words of a table that [`read`] fills: four for each of at most 128 rows.
 pub const TABLE_WORDS: usize = 512;
 
