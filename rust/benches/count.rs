@@ -1,0 +1,80 @@
+//! Runs one operation on one packet a given number of times, for a tool that counts instructions: `scripts/count`.
+//!
+//! Arguments: library or rival, the operation, the packet's name, how many times.
+
+mod packets;
+mod rival;
+
+use oysterknoll::{Knowing, LONGEST_LISTING, LONGEST_PACKET, TABLE_WORDS};
+use std::hint::black_box;
+
+fn main() {
+    let arguments: Vec<String> = std::env::args()
+        .skip(1)
+        .filter(|word| word != "--bench")
+        .collect();
+    let words: Vec<&str> = arguments.iter().map(String::as_str).collect();
+    let [side, operation, name, times] = words[..] else {
+        return eprintln!("count: library or rival, operation, packet, times");
+    };
+    let (Some(packet), Ok(times)) = (packets::named(name), times.parse()) else {
+        return eprintln!("count: no packet {name}, or {times} is no number");
+    };
+    let is_run = match side {
+        "library" => library(operation, &packet, times),
+        _ => rival(operation, &packet, times),
+    };
+    if !is_run {
+        eprintln!("count: {side} has no {operation}");
+    }
+}
+
+fn repeat<T>(times: usize, mut call: impl FnMut() -> T) -> bool {
+    for _ in 0..times {
+        black_box(call());
+    }
+    true
+}
+
+fn library(operation: &str, packet: &[u8], times: usize) -> bool {
+    let all = Knowing::ALL;
+    let (mut table, mut out) = ([0; TABLE_WORDS], [0; LONGEST_PACKET]);
+    let packet = || black_box(packet);
+    match operation {
+        "check" => repeat(times, || oysterknoll::check(packet(), all)),
+        "read" => repeat(times, || {
+            oysterknoll::read(packet(), all, &mut table).is_ok()
+        }),
+        "forward" => repeat(times, || oysterknoll::forward(packet(), all, &mut out)),
+        "write" => {
+            let count = oysterknoll::read(packet(), all, &mut table).map_or(0, |rows| rows.len());
+            repeat(times, || {
+                oysterknoll::write(black_box(&table), count, packet(), all, &mut out)
+            })
+        }
+        "list" => {
+            let mut listing = [0; LONGEST_LISTING];
+            repeat(times, || oysterknoll::list(packet(), &mut listing))
+        }
+        "corner" => repeat(times, || oysterknoll::corner(packet(), all, black_box(1))),
+        "to_house" => repeat(times, || {
+            oysterknoll::to_house(black_box(13), black_box(0x42B3_963B))
+        }),
+        "to_code" => repeat(times, || {
+            oysterknoll::to_code(black_box(13), black_box(468_995_000))
+        }),
+        _ => false,
+    }
+}
+
+fn rival(operation: &str, packet: &[u8], times: usize) -> bool {
+    let (low, high) = Knowing::ALL.words();
+    let (mut table, mut out) = ([0; TABLE_WORDS], [0; LONGEST_PACKET]);
+    let packet = || black_box(packet);
+    match operation {
+        "check" => repeat(times, || rival::check(packet(), low, high)),
+        "read" => repeat(times, || rival::read(packet(), low, high, &mut table)),
+        "forward" => repeat(times, || rival::forward(packet(), low, high, &mut out)),
+        _ => false,
+    }
+}

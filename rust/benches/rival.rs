@@ -1,0 +1,427 @@
+//! A reader and a forwarder in plain safe Rust, written for speed alone: the yardstick beside the library.
+
+/// Why a packet is refused, in document 01's numbers.
+#[derive(Clone, Copy, PartialEq, Eq, Debug)]
+pub struct Refusal {
+    pub number: u64,
+    pub place: usize,
+    pub tag: u64,
+}
+
+pub const KEY: [u8; 16] = [
+    0x06, 0x0E, 0x2B, 0x34, 0x02, 0x0B, 0x01, 0x01, 0x0E, 0x01, 0x03, 0x01, 0x01, 0x00, 0x00, 0x00,
+];
+const LONGEST_PACKET: usize = 8192;
+const MOST_ITEMS: usize = 128;
+const TABLE_WORDS: usize = 512;
+
+const NUMBER: u8 = 1;
+const NUMBER_OR_MARK: u8 = 2;
+const TEXT: u8 = 3;
+const CARRIED: u8 = 4;
+
+/// What the catalogue says of a tag: the least length, how many more bytes it may have, its largest first byte, its form.
+#[derive(Clone, Copy)]
+struct Rule {
+    least: u8,
+    span: u8,
+    top: u8,
+    form: u8,
+}
+
+static CATALOGUE: [Rule; 128] = catalogue();
+pub const CATALOGUE_TAGS: [u64; 2] = catalogue_tags();
+
+const fn with(mut rules: [Rule; 128], tags: &[usize], rule: Rule) -> [Rule; 128] {
+    let mut n = 0;
+    while n < tags.len() {
+        rules[tags[n]] = rule;
+        n += 1;
+    }
+    rules
+}
+
+const fn number(length: u8, form: u8) -> Rule {
+    Rule {
+        least: length,
+        span: 0,
+        top: 255,
+        form,
+    }
+}
+
+const fn catalogue() -> [Rule; 128] {
+    let mut rules = [number(0, CARRIED); 128];
+    rules = with(rules, &[8, 9, 36, 39, 55, 56, 65], number(1, NUMBER));
+    rules = with(
+        rules,
+        &[1, 5, 15, 16, 17, 22, 25, 35, 37, 38, 64, 71, 75, 78],
+        number(2, NUMBER),
+    );
+    rules = with(rules, &[18, 20, 21, 57], number(4, NUMBER));
+    rules = with(rules, &[2], number(8, NUMBER));
+    rules = with(
+        rules,
+        &[6, 7, 26, 27, 28, 29, 30, 31, 32, 33, 79, 80],
+        number(2, NUMBER_OR_MARK),
+    );
+    rules = with(
+        rules,
+        &[13, 14, 19, 23, 24, 67, 68],
+        number(4, NUMBER_OR_MARK),
+    );
+    rules = with(
+        rules,
+        &[82, 83, 84, 85, 86, 87, 88, 89, 90, 91],
+        number(4, NUMBER_OR_MARK),
+    );
+    rules[34] = Rule {
+        top: 2,
+        ..number(1, NUMBER)
+    };
+    rules[63] = Rule {
+        top: 8,
+        ..number(1, NUMBER)
+    };
+    let text = Rule {
+        least: 1,
+        span: 126,
+        top: 255,
+        form: TEXT,
+    };
+    with(rules, &[3, 4, 10, 11, 12, 59, 70], text)
+}
+
+const fn catalogue_tags() -> [u64; 2] {
+    let rules = catalogue();
+    let mut words = [0; 2];
+    let mut tag = 0;
+    while tag < 128 {
+        if rules[tag].form != CARRIED {
+            words[tag / 64] |= 1 << (tag % 64);
+        }
+        tag += 1;
+    }
+    words
+}
+
+/// One item of a packet: where it starts, its tag, where its value stands, and how many bytes its length wastes.
+#[derive(Clone, Copy)]
+struct Item {
+    start: usize,
+    tag: u64,
+    place: usize,
+    length: usize,
+    spare: usize,
+}
+
+fn refusal(number: u64, place: usize, tag: u64) -> Refusal {
+    Refusal { number, place, tag }
+}
+
+/// A length and the number of bytes that it takes, unless it is cut or forbidden.
+fn length(bytes: &[u8]) -> Option<(usize, usize)> {
+    let (&first, rest) = bytes.split_first()?;
+    match first {
+        0..=0x7F => Some((first.into(), 1)),
+        0x81..=0x84 => {
+            let more = usize::from(first - 0x80);
+            let length = rest
+                .get(..more)?
+                .iter()
+                .fold(0, |sum, &byte| sum << 8 | usize::from(byte));
+            Some((length, 1 + more))
+        }
+        _ => None,
+    }
+}
+
+/// A tag and the number of bytes that it takes, unless it is cut or forbidden.
+fn tag(bytes: &[u8]) -> Option<(u64, usize)> {
+    match *bytes {
+        [0 | 0x80, ..] => None,
+        [a @ ..0x80, ..] => Some((a.into(), 1)),
+        [a, b @ ..0x80, ..] => Some((u64::from(a & 0x7F) << 7 | u64::from(b), 2)),
+        [a, b, c @ ..0x80, ..] => Some((
+            u64::from(a & 0x7F) << 14 | u64::from(b & 0x7F) << 7 | u64::from(c),
+            3,
+        )),
+        _ => None,
+    }
+}
+
+/// An item by the general rule: the few that have a long tag or a long length come here.
+#[inline(never)]
+fn long_item(packet: &[u8], start: usize) -> Result<Item, Refusal> {
+    let (tag, tag_bytes) = tag(&packet[start..]).ok_or(refusal(7, start, 0))?;
+    let after_tag = start + tag_bytes;
+    let (length, bytes) = length(&packet[after_tag..]).ok_or(refusal(8, start, tag))?;
+    let place = after_tag + bytes;
+    if length > packet.len() - place {
+        return Err(refusal(8, start, tag));
+    }
+    let spare = bytes - length_bytes(length);
+    Ok(Item {
+        start,
+        tag,
+        place,
+        length,
+        spare,
+    })
+}
+
+/// The item that starts at a place before the packet's end.
+#[inline(always)]
+fn next_item(packet: &[u8], start: usize) -> Result<Item, Refusal> {
+    match packet[start..] {
+        [tag, length, ref rest @ ..] if tag | length < 0x80 && tag != 0 => {
+            let (tag, length) = (u64::from(tag), usize::from(length));
+            if length > rest.len() {
+                return Err(refusal(8, start, tag));
+            }
+            Ok(Item {
+                start,
+                tag,
+                place: start + 2,
+                length,
+                spare: 0,
+            })
+        }
+        _ => long_item(packet, start),
+    }
+}
+
+/// The sum of all sixteen-bit words, highest byte first, a last byte without a partner being a high one.
+pub fn checksum(bytes: &[u8]) -> u16 {
+    let pairs = bytes.chunks_exact(2);
+    let unpaired = pairs
+        .remainder()
+        .first()
+        .map_or(0, |&byte| u16::from(byte) << 8);
+    let words = pairs.map(|pair| u16::from_be_bytes([pair[0], pair[1]]));
+    words.fold(unpaired, u16::wrapping_add)
+}
+
+fn good(low: u64, high: u64) -> bool {
+    let outside = (low & !CATALOGUE_TAGS[0]) | (high & !CATALOGUE_TAGS[1]);
+    outside == 0 && low & 6 == 6 && high & 2 == 2
+}
+
+/// The place of the first item of a packet that has a good size, key and outer length.
+fn body(packet: &[u8]) -> Result<usize, Refusal> {
+    if packet.len() > LONGEST_PACKET {
+        return Err(refusal(3, 0, 0));
+    }
+    let Some(rest) = packet.strip_prefix(&KEY) else {
+        return Err(refusal(4, 0, 0));
+    };
+    match length(rest) {
+        Some((length, bytes)) if length == rest.len() - bytes => Ok(16 + bytes),
+        _ => Err(refusal(5, 16, 0)),
+    }
+}
+
+/// The known tags, those of them not yet met, and the first known item that is at fault.
+struct Known {
+    knowing: [u64; 2],
+    awaited: [u64; 2],
+    fault: Option<Refusal>,
+}
+
+fn holds(set: &[u64; 2], tag: u64) -> bool {
+    set[(tag / 64) as usize] >> (tag % 64) & 1 == 1
+}
+
+impl Known {
+    #[inline(always)]
+    fn meet(&mut self, packet: &[u8], item: Item) {
+        if item.tag > 127 || !holds(&self.knowing, item.tag) {
+            return;
+        }
+        let rule = CATALOGUE[item.tag as usize];
+        let right = item.length.wrapping_sub(rule.least.into()) <= rule.span.into();
+        let fresh = holds(&self.awaited, item.tag);
+        self.awaited[(item.tag / 64) as usize] &= !(1 << (item.tag % 64));
+        if !right || !fresh || rule.top < 255 && packet[item.place] > rule.top {
+            self.blame(item.start, item.tag, right, fresh);
+        }
+    }
+
+    #[cold]
+    #[inline(never)]
+    fn blame(&mut self, start: usize, tag: u64, right: bool, fresh: bool) {
+        let number = match (right, fresh) {
+            (false, _) => 12,
+            (true, false) => 13,
+            (true, true) => 14,
+        };
+        self.fault.get_or_insert(refusal(number, start, tag));
+    }
+}
+
+/// Checks a packet in one pass and hands each item on with its number.
+#[inline(always)]
+fn walk(
+    packet: &[u8],
+    low: u64,
+    high: u64,
+    mut keep: impl FnMut(usize, Item),
+) -> Result<usize, Refusal> {
+    let body = body(packet)?;
+    let mut known = Known {
+        knowing: [low, high],
+        awaited: [low, high],
+        fault: None,
+    };
+    let (mut count, mut place, mut last) = (0, body, body);
+    while place < packet.len() {
+        if count == MOST_ITEMS {
+            return Err(refusal(6, place, 0));
+        }
+        let item = next_item(packet, place)?;
+        known.meet(packet, item);
+        keep(count, item);
+        count += 1;
+        last = place;
+        place = item.place + item.length;
+    }
+    ends(packet, body, last)?;
+    match known.fault {
+        Some(fault) => Err(fault),
+        None if known.awaited[1] & 2 != 0 => Err(refusal(15, 0, 0)),
+        None => Ok(count),
+    }
+}
+
+/// The first item, the last one and the checksum of a packet that is all items.
+#[inline(always)]
+fn ends(packet: &[u8], body: usize, last: usize) -> Result<(), Refusal> {
+    if packet[body..].first() != Some(&2) {
+        let tag = tag(&packet[body..]).map_or(0, |(tag, _)| tag);
+        return Err(refusal(9, body, tag));
+    }
+    let last = next_item(packet, last)?;
+    if last.tag != 1 || last.length != 2 {
+        return Err(refusal(10, last.start, last.tag));
+    }
+    let (summed, stored) = packet.split_at(last.place);
+    if checksum(summed).to_be_bytes() != stored {
+        return Err(refusal(11, last.place, 1));
+    }
+    Ok(())
+}
+
+/// The number of items of an accepted packet.
+#[inline(never)]
+pub fn check(packet: &[u8], low: u64, high: u64) -> Result<usize, Refusal> {
+    if !good(low, high) {
+        return Err(refusal(1, 0, 0));
+    }
+    walk(packet, low, high, |_, _| {})
+}
+
+/// Fills the first 512 words of the table with the rows of an accepted packet and answers their count.
+#[inline(never)]
+pub fn read(packet: &[u8], low: u64, high: u64, table: &mut [u64]) -> Result<usize, Refusal> {
+    if !good(low, high) {
+        return Err(refusal(1, 0, 0));
+    }
+    let table = table.get_mut(..TABLE_WORDS).ok_or(refusal(2, 0, 0))?;
+    let mut items = [(0u32, 0u32); MOST_ITEMS];
+    let count = walk(packet, low, high, |n, item| {
+        items[n] = (item.tag as u32, (item.place << 16 | item.length) as u32);
+    })?;
+    let (rows, rest) = table.split_at_mut(4 * count);
+    for (row, &(tag, span)) in rows.chunks_exact_mut(4).zip(&items) {
+        let (kind, code) = content(packet, [low, high], tag, span);
+        row.copy_from_slice(&[tag.into(), kind.into(), code, span.into()]);
+    }
+    rest.fill(0);
+    Ok(count)
+}
+
+/// Kind and code of an accepted item.
+#[inline(always)]
+fn content(packet: &[u8], knowing: [u64; 2], tag: u32, span: u32) -> (u8, u64) {
+    if tag > 127 || knowing[(tag >> 6) as usize] >> (tag & 63) & 1 == 0 {
+        return (CARRIED, 0);
+    }
+    let form = CATALOGUE[tag as usize].form;
+    if form == TEXT {
+        return (TEXT, 0);
+    }
+    // The key stands before every value, so the eight bytes that end with a number are always there.
+    let (place, length) = ((span >> 16) as usize, (span & 0xFFFF) as usize);
+    let end = place + length;
+    let bytes = packet[end - 8..end].try_into().unwrap_or_default();
+    let shift = 64 - 8 * length as u32;
+    let top = u64::from_be_bytes(bytes) << shift;
+    let is_mark = form == NUMBER_OR_MARK && top == 1 << 63;
+    (1 + u8::from(is_mark), top >> shift)
+}
+
+/// The number of bytes of a length in its shortest form.
+fn length_bytes(length: usize) -> usize {
+    match length {
+        0..=0x7F => 1,
+        0x80..=0xFF => 2,
+        _ => 3,
+    }
+}
+
+/// Writes a length in its shortest form and answers the place after it.
+fn put_length(out: &mut [u8], at: usize, length: usize) -> usize {
+    let [high, low] = (length as u16).to_be_bytes();
+    match length_bytes(length) {
+        1 => out[at] = low,
+        2 => out[at..at + 2].copy_from_slice(&[0x81, low]),
+        _ => out[at..at + 3].copy_from_slice(&[0x82, high, low]),
+    }
+    at + length_bytes(length)
+}
+
+/// Sends an accepted packet on: every item in its order, lengths in their shortest form, the checksum afresh.
+#[inline(never)]
+pub fn forward(packet: &[u8], low: u64, high: u64, out: &mut [u8]) -> Result<usize, Refusal> {
+    if !good(low, high) {
+        return Err(refusal(1, 0, 0));
+    }
+    let (mut body, mut spare) = (packet.len(), 0);
+    walk(packet, low, high, |n, item| {
+        body = if n == 0 { item.start } else { body };
+        spare += item.spare;
+    })?;
+    let items_size = packet.len() - body - spare;
+    let size = 16 + length_bytes(items_size) + items_size;
+    let out = out.get_mut(..size).ok_or(refusal(18, 0, 0))?;
+    if size == packet.len() {
+        out.copy_from_slice(packet);
+    } else {
+        shorten(packet, body, items_size, out);
+    }
+    Ok(size)
+}
+
+/// Copies an accepted packet in runs that end where a length has a shorter form.
+fn shorten(packet: &[u8], body: usize, items_size: usize, out: &mut [u8]) {
+    out[..16].copy_from_slice(&KEY);
+    let mut at = put_length(out, 16, items_size);
+    let (mut run, mut place) = (body, body);
+    while let Ok(item) = next_item(packet, place) {
+        if item.spare > 0 {
+            let tag_end = item.place - length_bytes(item.length) - item.spare;
+            at = put(out, at, &packet[run..tag_end]);
+            at = put_length(out, at, item.length);
+            run = item.place;
+        }
+        place = item.place + item.length;
+    }
+    put(out, at, &packet[run..]);
+    let (summed, sum) = out.split_at_mut(out.len() - 2);
+    sum.copy_from_slice(&checksum(summed).to_be_bytes());
+}
+
+fn put(out: &mut [u8], at: usize, bytes: &[u8]) -> usize {
+    out[at..at + bytes.len()].copy_from_slice(bytes);
+    at + bytes.len()
+}
