@@ -1,0 +1,190 @@
+//! How long the library's operations take, beside a rival in plain safe Rust; `cargo bench --bench speed -- 51` runs 51 rounds.
+
+mod agreement;
+mod packets;
+mod rival;
+
+use oysterknoll::{Knowing, LONGEST_LISTING, LONGEST_PACKET, TABLE_WORDS};
+use std::hint::black_box;
+use std::time::{Duration, Instant};
+
+const DAMAGED_PACKETS: usize = 5000;
+const ROUNDS: usize = 301;
+const BATCH: Duration = Duration::from_micros(100);
+
+const NAMES: [&str; 5] = ["small", "typical", "full", "refused", "roomy"];
+
+fn main() {
+    let rounds = std::env::args()
+        .skip(1)
+        .find_map(|word| word.parse().ok())
+        .unwrap_or(ROUNDS);
+    let named: Vec<_> = NAMES
+        .iter()
+        .filter_map(|name| Some((*name, packets::named(name)?)))
+        .collect();
+    let sized: Vec<_> = [1, 2, 4, 8]
+        .map(|size| (size, packets::of_kilobytes(size)))
+        .into();
+    let named_ones = named.iter().map(|(_, packet)| packet.clone());
+    let whole: Vec<_> = named_ones
+        .chain(sized.iter().map(|(_, packet)| packet.clone()))
+        .collect();
+    match agreement::compare_all(&whole, DAMAGED_PACKETS) {
+        Ok(met) => print_agreement(&met),
+        Err(difference) => {
+            eprintln!("speed: {difference}");
+            std::process::exit(1);
+        }
+    }
+    print_operations(&named, rounds);
+    print_sizes(&sized, rounds);
+}
+
+fn print_agreement(met: &[usize]) {
+    println!(
+        "The library and the rival agree on {} packets.",
+        met.iter().sum::<usize>()
+    );
+    let refusals = met
+        .iter()
+        .enumerate()
+        .skip(1)
+        .filter(|(_, &times)| times > 0);
+    let list: Vec<_> = refusals
+        .map(|(number, times)| format!("{number} ({times})"))
+        .collect();
+    println!("Accepted {}; by refusal: {}.\n", met[0], list.join(", "));
+}
+
+/// Nanoseconds of a call of each of the two, the median of many batches, which alternate so that both meet the same disturbances.
+fn race<A, B>(
+    rounds: usize,
+    mut first: impl FnMut() -> A,
+    mut second: impl FnMut() -> B,
+) -> (f64, f64) {
+    let (first_calls, second_calls) = (calls_in_a_batch(&mut first), calls_in_a_batch(&mut second));
+    let times = (0..rounds).map(|_| {
+        (
+            batch(first_calls, &mut first),
+            batch(second_calls, &mut second),
+        )
+    });
+    let (firsts, seconds) = times.unzip();
+    (median(firsts), median(seconds))
+}
+
+/// Nanoseconds of a call that has no rival.
+fn alone<T>(rounds: usize, mut call: impl FnMut() -> T) -> f64 {
+    let calls = calls_in_a_batch(&mut call);
+    median((0..rounds).map(|_| batch(calls, &mut call)).collect())
+}
+
+fn batch<T>(calls: u32, call: &mut impl FnMut() -> T) -> f64 {
+    let start = Instant::now();
+    for _ in 0..calls {
+        black_box(call());
+    }
+    start.elapsed().as_nanos() as f64 / f64::from(calls)
+}
+
+fn calls_in_a_batch<T>(call: &mut impl FnMut() -> T) -> u32 {
+    let mut calls = 1;
+    while batch(calls, call) * f64::from(calls) < BATCH.as_nanos() as f64 {
+        calls *= 2;
+    }
+    calls
+}
+
+fn median(mut times: Vec<f64>) -> f64 {
+    times.sort_by(f64::total_cmp);
+    times[times.len() / 2]
+}
+
+/// The times of check, read and forward, each the library's and the rival's.
+fn contest(packet: &[u8], rounds: usize) -> [(&'static str, (f64, f64)); 3] {
+    let all = Knowing::ALL;
+    let (low, high) = all.words();
+    let (mut table, mut rival_table) = ([0; TABLE_WORDS], [0; TABLE_WORDS]);
+    let (mut out, mut rival_out) = ([0; LONGEST_PACKET], [0; LONGEST_PACKET]);
+    let packet = || black_box(packet);
+    let check = race(
+        rounds,
+        || oysterknoll::check(packet(), all),
+        || rival::check(packet(), low, high),
+    );
+    let read = race(
+        rounds,
+        || oysterknoll::read(packet(), all, &mut table).is_ok(),
+        || rival::read(packet(), low, high, &mut rival_table).is_ok(),
+    );
+    let forward = race(
+        rounds,
+        || oysterknoll::forward(packet(), all, &mut out),
+        || rival::forward(packet(), low, high, &mut rival_out),
+    );
+    [("check", check), ("read", read), ("forward", forward)]
+}
+
+/// The times of the operations that have no rival; a packet that is refused has no rows to write.
+fn others(packet: &[u8], rounds: usize) -> Vec<(&'static str, f64)> {
+    let all = Knowing::ALL;
+    let (mut table, mut out, mut listing) =
+        ([0; TABLE_WORDS], [0; LONGEST_PACKET], [0; LONGEST_LISTING]);
+    let rows = oysterknoll::read(packet, all, &mut table).map(|rows| rows.len());
+    let packet = || black_box(packet);
+    let list = alone(rounds, || oysterknoll::list(packet(), &mut listing));
+    let corner = alone(rounds, || oysterknoll::corner(packet(), all, black_box(1)));
+    let write = |rows| {
+        alone(rounds, || {
+            oysterknoll::write(black_box(&table), rows, packet(), all, &mut out)
+        })
+    };
+    let mut times = vec![("list", list), ("corner", corner)];
+    times.extend(rows.ok().map(write).map(|time| ("write", time)));
+    times
+}
+
+fn print_operations(named: &[(&str, Vec<u8>)], rounds: usize) {
+    println!(
+        "{:8} {:8} {:>6} {:>11} {:>7} {:>11} {:>7} {:>7}",
+        "packet", "", "bytes", "library ns", "MB/s", "rival ns", "MB/s", "ratio"
+    );
+    for (name, packet) in named {
+        let bytes = packet.len();
+        let rate = |time: f64| bytes as f64 * 1000.0 / time;
+        for (operation, (library, rival)) in contest(packet, rounds) {
+            let (quick, rival_quick, ratio) = (rate(library), rate(rival), library / rival);
+            println!("{name:8} {operation:8} {bytes:6} {library:11.1} {quick:7.0} {rival:11.1} {rival_quick:7.0} {ratio:7.2}");
+        }
+        for (operation, library) in others(packet, rounds) {
+            println!(
+                "{name:8} {operation:8} {bytes:6} {library:11.1} {:7.0}",
+                rate(library)
+            );
+        }
+    }
+    let to_house = alone(rounds, || {
+        oysterknoll::to_house(black_box(13), black_box(0x42B3_963B))
+    });
+    let to_code = alone(rounds, || {
+        oysterknoll::to_code(black_box(13), black_box(468_995_000))
+    });
+    println!("{:8} {:8} {:6} {to_house:11.1}", "", "to_house", "");
+    println!("{:8} {:8} {:6} {to_code:11.1}\n", "", "to_code", "");
+}
+
+/// The same kind of items in packets of growing size: the cost of a byte stays.
+fn print_sizes(sized: &[(usize, Vec<u8>)], rounds: usize) {
+    println!(
+        "{:8} {:8} {:>18} {:>16}",
+        "size", "", "library ns a byte", "rival ns a byte"
+    );
+    for (kilobytes, packet) in sized {
+        let a_byte = |time: f64| time / packet.len() as f64;
+        for (operation, (library, rival)) in contest(packet, rounds) {
+            let (library, rival) = (a_byte(library), a_byte(rival));
+            println!("{kilobytes} KB     {operation:8} {library:18.3} {rival:16.3}");
+        }
+    }
+}
