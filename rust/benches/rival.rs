@@ -30,6 +30,7 @@ struct Rule {
 }
 
 static CATALOGUE: [Rule; 128] = catalogue();
+static PLAIN_LENGTHS: [(u8, u8); 256] = plain_lengths();
 pub const CATALOGUE_TAGS: [u64; 2] = catalogue_tags();
 
 const fn with(mut rules: [Rule; 128], tags: &[usize], rule: Rule) -> [Rule; 128] {
@@ -92,6 +93,20 @@ const fn catalogue() -> [Rule; 128] {
     with(rules, &[3, 4, 10, 11, 12, 59, 70], text)
 }
 
+/// The least length of each tag and how many more bytes settle the matter; for a tag with a largest code none does.
+const fn plain_lengths() -> [(u8, u8); 256] {
+    let rules = catalogue();
+    let mut lengths = [(255, 0); 256];
+    let mut tag = 0;
+    while tag < 128 {
+        if rules[tag].top == 255 {
+            lengths[tag] = (rules[tag].least, rules[tag].span);
+        }
+        tag += 1;
+    }
+    lengths
+}
+
 const fn catalogue_tags() -> [u64; 2] {
     let rules = catalogue();
     let mut words = [0; 2];
@@ -121,17 +136,12 @@ fn refusal(number: u64, place: usize, tag: u64) -> Refusal {
 
 /// A length and the number of bytes that it takes, unless it is cut or forbidden.
 fn length(bytes: &[u8]) -> Option<(usize, usize)> {
-    let (&first, rest) = bytes.split_first()?;
-    match first {
-        0..=0x7F => Some((first.into(), 1)),
-        0x81..=0x84 => {
-            let more = usize::from(first - 0x80);
-            let length = rest
-                .get(..more)?
-                .iter()
-                .fold(0, |sum, &byte| sum << 8 | usize::from(byte));
-            Some((length, 1 + more))
-        }
+    match *bytes {
+        [a @ ..0x80, ..] => Some((a.into(), 1)),
+        [0x81, a, ..] => Some((a.into(), 2)),
+        [0x82, a, b, ..] => Some((u16::from_be_bytes([a, b]).into(), 3)),
+        [0x83, a, b, c, ..] => Some((u32::from_be_bytes([0, a, b, c]) as usize, 4)),
+        [0x84, a, b, c, d, ..] => Some((u32::from_be_bytes([a, b, c, d]) as usize, 5)),
         _ => None,
     }
 }
@@ -150,9 +160,22 @@ fn tag(bytes: &[u8]) -> Option<(u64, usize)> {
     }
 }
 
-/// An item by the general rule: the few that have a long tag or a long length come here.
-#[inline(never)]
-fn long_item(packet: &[u8], start: usize) -> Result<Item, Refusal> {
+impl Item {
+    #[inline(always)]
+    fn short(start: usize, tag: u8, length: u8) -> Item {
+        Item {
+            start,
+            tag: tag.into(),
+            place: start + 2,
+            length: length.into(),
+            spare: 0,
+        }
+    }
+}
+
+/// The item at a place before the packet's end.
+#[inline(always)]
+fn next_item(packet: &[u8], start: usize) -> Result<Item, Refusal> {
     let (tag, tag_bytes) = tag(&packet[start..]).ok_or(refusal(7, start, 0))?;
     let after_tag = start + tag_bytes;
     let (length, bytes) = length(&packet[after_tag..]).ok_or(refusal(8, start, tag))?;
@@ -168,27 +191,6 @@ fn long_item(packet: &[u8], start: usize) -> Result<Item, Refusal> {
         length,
         spare,
     })
-}
-
-/// The item that starts at a place before the packet's end.
-#[inline(always)]
-fn next_item(packet: &[u8], start: usize) -> Result<Item, Refusal> {
-    match packet[start..] {
-        [tag, length, ref rest @ ..] if tag | length < 0x80 && tag != 0 => {
-            let (tag, length) = (u64::from(tag), usize::from(length));
-            if length > rest.len() {
-                return Err(refusal(8, start, tag));
-            }
-            Ok(Item {
-                start,
-                tag,
-                place: start + 2,
-                length,
-                spare: 0,
-            })
-        }
-        _ => long_item(packet, start),
-    }
 }
 
 /// The sum of all sixteen-bit words, highest byte first, a last byte without a partner being a high one.
@@ -223,39 +225,58 @@ fn body(packet: &[u8]) -> Result<usize, Refusal> {
 
 /// The known tags, those of them not yet met, and the first known item that is at fault.
 struct Known {
-    knowing: [u64; 2],
-    awaited: [u64; 2],
+    knowing: [u64; 4],
+    awaited: [u64; 4],
     fault: Option<Refusal>,
 }
 
-fn holds(set: &[u64; 2], tag: u64) -> bool {
+fn holds(set: &[u64; 4], tag: u64) -> bool {
     set[(tag / 64) as usize] >> (tag % 64) & 1 == 1
 }
 
 impl Known {
+    /// The item at a place if nothing about it calls for a closer look, as with nearly all of them.
     #[inline(always)]
-    fn meet(&mut self, packet: &[u8], item: Item) {
-        if item.tag > 127 || !holds(&self.knowing, item.tag) {
-            return;
+    fn plain_item(&mut self, packet: &[u8], start: usize) -> Option<Item> {
+        let [tag, length, ref rest @ ..] = packet[start..] else {
+            return None;
+        };
+        if tag | length > 0x7F || usize::from(length) > rest.len() {
+            return None;
         }
-        let rule = CATALOGUE[item.tag as usize];
-        let right = item.length.wrapping_sub(rule.least.into()) <= rule.span.into();
-        let fresh = holds(&self.awaited, item.tag);
-        self.awaited[(item.tag / 64) as usize] &= !(1 << (item.tag % 64));
-        if !right || !fresh || rule.top < 255 && packet[item.place] > rule.top {
-            self.blame(item.start, item.tag, right, fresh);
+        let (word, bit) = (usize::from(tag / 64), 1 << (tag % 64));
+        if self.awaited[word] & bit != 0 {
+            let (least, span) = PLAIN_LENGTHS[usize::from(tag)];
+            if length.wrapping_sub(least) > span {
+                return None;
+            }
+            self.awaited[word] ^= bit;
+        } else if tag == 0 || self.knowing[word] & bit != 0 {
+            return None;
         }
+        Some(Item::short(start, tag, length))
     }
 
-    #[cold]
+    /// The item at a place by the general rules, and its fault if it is the first that has one.
     #[inline(never)]
-    fn blame(&mut self, start: usize, tag: u64, right: bool, fresh: bool) {
-        let number = match (right, fresh) {
-            (false, _) => 12,
-            (true, false) => 13,
-            (true, true) => 14,
+    fn any_item(&mut self, packet: &[u8], start: usize) -> Result<Item, Refusal> {
+        let item = next_item(packet, start)?;
+        if item.tag > 127 || !holds(&self.knowing, item.tag) {
+            return Ok(item);
+        }
+        let rule = CATALOGUE[item.tag as usize];
+        let is_fresh = holds(&self.awaited, item.tag);
+        self.awaited[(item.tag / 64) as usize] &= !(1 << (item.tag % 64));
+        let number = match item.length.checked_sub(rule.least.into()) {
+            Some(more) if more <= rule.span.into() => match is_fresh {
+                true if packet[item.place] <= rule.top => return Ok(item),
+                true => 14,
+                false => 13,
+            },
+            _ => 12,
         };
-        self.fault.get_or_insert(refusal(number, start, tag));
+        self.fault.get_or_insert(refusal(number, start, item.tag));
+        Ok(item)
     }
 }
 
@@ -269,8 +290,8 @@ fn walk(
 ) -> Result<usize, Refusal> {
     let body = body(packet)?;
     let mut known = Known {
-        knowing: [low, high],
-        awaited: [low, high],
+        knowing: [low, high, 0, 0],
+        awaited: [low, high, 0, 0],
         fault: None,
     };
     let (mut count, mut place, mut last) = (0, body, body);
@@ -278,8 +299,10 @@ fn walk(
         if count == MOST_ITEMS {
             return Err(refusal(6, place, 0));
         }
-        let item = next_item(packet, place)?;
-        known.meet(packet, item);
+        let item = match known.plain_item(packet, place) {
+            Some(item) => item,
+            None => known.any_item(packet, place)?,
+        };
         keep(count, item);
         count += 1;
         last = place;
@@ -331,9 +354,10 @@ pub fn read(packet: &[u8], low: u64, high: u64, table: &mut [u64]) -> Result<usi
     let count = walk(packet, low, high, |n, item| {
         items[n] = (item.tag as u32, (item.place << 16 | item.length) as u32);
     })?;
+    let knowing = [low, high];
     let (rows, rest) = table.split_at_mut(4 * count);
     for (row, &(tag, span)) in rows.chunks_exact_mut(4).zip(&items) {
-        let (kind, code) = content(packet, [low, high], tag, span);
+        let (kind, code) = content(packet, &knowing, tag, span);
         row.copy_from_slice(&[tag.into(), kind.into(), code, span.into()]);
     }
     rest.fill(0);
@@ -342,7 +366,7 @@ pub fn read(packet: &[u8], low: u64, high: u64, table: &mut [u64]) -> Result<usi
 
 /// Kind and code of an accepted item.
 #[inline(always)]
-fn content(packet: &[u8], knowing: [u64; 2], tag: u32, span: u32) -> (u8, u64) {
+fn content(packet: &[u8], knowing: &[u64; 2], tag: u32, span: u32) -> (u8, u64) {
     if tag > 127 || knowing[(tag >> 6) as usize] >> (tag & 63) & 1 == 0 {
         return (CARRIED, 0);
     }
