@@ -7,26 +7,36 @@ mod rival;
 
 use oysterknoll::{Knowing, LONGEST_LISTING, LONGEST_PACKET, TABLE_WORDS};
 use std::hint::black_box;
+use std::process::ExitCode;
 
-fn main() {
+fn main() -> ExitCode {
     let arguments: Vec<String> = std::env::args()
         .skip(1)
         .filter(|word| word != "--bench")
         .collect();
     let words: Vec<&str> = arguments.iter().map(String::as_str).collect();
-    let [side, operation, name, times] = words[..] else {
-        return eprintln!("count: library or rival, operation, packet, times");
+    match run(&words) {
+        Some(()) => ExitCode::SUCCESS,
+        None => {
+            eprintln!(
+                "count: not library or rival, an operation, a packet and a number: {words:?}"
+            );
+            ExitCode::FAILURE
+        }
+    }
+}
+
+fn run(words: &[&str]) -> Option<()> {
+    let &[side, operation, name, times] = words else {
+        return None;
     };
-    let (Some(packet), Ok(times)) = (packets::named(name), times.parse()) else {
-        return eprintln!("count: no packet {name}, or {times} is no number");
-    };
+    let (packet, times) = (packets::named(name)?, times.parse().ok()?);
     let is_run = match side {
         "library" => library(operation, &packet, times),
-        _ => rival(operation, &packet, times),
+        "rival" => rival(operation, &packet, times),
+        _ => false,
     };
-    if !is_run {
-        eprintln!("count: {side} has no {operation}");
-    }
+    is_run.then_some(())
 }
 
 fn repeat<T>(times: usize, mut call: impl FnMut() -> T) -> bool {

@@ -15,7 +15,7 @@ const KNOWN_TAGS: [u64; 62] = [
     89, 63, 71, 75, 70, 78, 79, 80, 57, 67, 68, 90, 91,
 ];
 
-/// The packet called small, typical, full, refused or roomy.
+/// The packet called small, typical, full, refused or roomy, or by its size: 1KB, 2KB, 4KB, 8KB.
 pub fn named(name: &str) -> Option<Vec<u8>> {
     match name {
         "small" => Some(packet(&small(), false)),
@@ -23,7 +23,12 @@ pub fn named(name: &str) -> Option<Vec<u8>> {
         "full" => Some(of_kilobytes(8)),
         "refused" => Some(wrong_checksum(packet(&typical(), false))),
         "roomy" => Some(packet(&typical(), true)),
-        _ => None,
+        size => {
+            let kilobytes = size.strip_suffix("KB")?.parse().ok()?;
+            (1..=8)
+                .contains(&kilobytes)
+                .then(|| of_kilobytes(kilobytes))
+        }
     }
 }
 

@@ -31,66 +31,55 @@ struct Rule {
 
 static CATALOGUE: [Rule; 128] = catalogue();
 static PLAIN_LENGTHS: [(u8, u8); 256] = plain_lengths();
-pub const CATALOGUE_TAGS: [u64; 2] = catalogue_tags();
+const CATALOGUE_TAGS: [u64; 2] = catalogue_tags();
 
-const fn with(mut rules: [Rule; 128], tags: &[usize], rule: Rule) -> [Rule; 128] {
-    let mut n = 0;
-    while n < tags.len() {
-        rules[tags[n]] = rule;
-        n += 1;
-    }
-    rules
-}
-
-const fn number(length: u8, form: u8) -> Rule {
-    Rule {
-        least: length,
-        span: 0,
-        top: 255,
-        form,
-    }
-}
+/// The catalogue's tags by what is said of them, in the order of a rule's fields.
+const GROUPS: [((u8, u8, u8, u8), &[usize]); 10] = [
+    ((1, 0, 255, NUMBER), &[8, 9, 36, 39, 55, 56, 65]),
+    ((1, 0, 2, NUMBER), &[34]),
+    ((1, 0, 8, NUMBER), &[63]),
+    (
+        (2, 0, 255, NUMBER),
+        &[1, 5, 15, 16, 17, 22, 25, 35, 37, 38, 64, 71, 75, 78],
+    ),
+    ((4, 0, 255, NUMBER), &[18, 20, 21, 57]),
+    ((8, 0, 255, NUMBER), &[2]),
+    (
+        (2, 0, 255, NUMBER_OR_MARK),
+        &[6, 7, 26, 27, 28, 29, 30, 31, 32, 33, 79, 80],
+    ),
+    ((4, 0, 255, NUMBER_OR_MARK), &[13, 14, 19, 23, 24, 67, 68]),
+    (
+        (4, 0, 255, NUMBER_OR_MARK),
+        &[82, 83, 84, 85, 86, 87, 88, 89, 90, 91],
+    ),
+    ((1, 126, 255, TEXT), &[3, 4, 10, 11, 12, 59, 70]),
+];
 
 const fn catalogue() -> [Rule; 128] {
-    let mut rules = [number(0, CARRIED); 128];
-    rules = with(rules, &[8, 9, 36, 39, 55, 56, 65], number(1, NUMBER));
-    rules = with(
-        rules,
-        &[1, 5, 15, 16, 17, 22, 25, 35, 37, 38, 64, 71, 75, 78],
-        number(2, NUMBER),
-    );
-    rules = with(rules, &[18, 20, 21, 57], number(4, NUMBER));
-    rules = with(rules, &[2], number(8, NUMBER));
-    rules = with(
-        rules,
-        &[6, 7, 26, 27, 28, 29, 30, 31, 32, 33, 79, 80],
-        number(2, NUMBER_OR_MARK),
-    );
-    rules = with(
-        rules,
-        &[13, 14, 19, 23, 24, 67, 68],
-        number(4, NUMBER_OR_MARK),
-    );
-    rules = with(
-        rules,
-        &[82, 83, 84, 85, 86, 87, 88, 89, 90, 91],
-        number(4, NUMBER_OR_MARK),
-    );
-    rules[34] = Rule {
-        top: 2,
-        ..number(1, NUMBER)
-    };
-    rules[63] = Rule {
-        top: 8,
-        ..number(1, NUMBER)
-    };
-    let text = Rule {
-        least: 1,
-        span: 126,
+    let outside = Rule {
+        least: 0,
+        span: 0,
         top: 255,
-        form: TEXT,
+        form: CARRIED,
     };
-    with(rules, &[3, 4, 10, 11, 12, 59, 70], text)
+    let mut rules = [outside; 128];
+    let mut group = 0;
+    while group < GROUPS.len() {
+        let ((least, span, top, form), tags) = GROUPS[group];
+        let mut n = 0;
+        while n < tags.len() {
+            rules[tags[n]] = Rule {
+                least,
+                span,
+                top,
+                form,
+            };
+            n += 1;
+        }
+        group += 1;
+    }
+    rules
 }
 
 /// The least length of each tag and how many more bytes settle the matter; for a tag with a largest code none does.
@@ -137,7 +126,7 @@ fn refusal(number: u64, place: usize, tag: u64) -> Refusal {
 /// A length and the number of bytes that it takes, unless it is cut or forbidden.
 fn length(bytes: &[u8]) -> Option<(usize, usize)> {
     match *bytes {
-        [a @ ..0x80, ..] => Some((a.into(), 1)),
+        [a @ ..=0x7F, ..] => Some((a.into(), 1)),
         [0x81, a, ..] => Some((a.into(), 2)),
         [0x82, a, b, ..] => Some((u16::from_be_bytes([a, b]).into(), 3)),
         [0x83, a, b, c, ..] => Some((u32::from_be_bytes([0, a, b, c]) as usize, 4)),
@@ -150,9 +139,9 @@ fn length(bytes: &[u8]) -> Option<(usize, usize)> {
 fn tag(bytes: &[u8]) -> Option<(u64, usize)> {
     match *bytes {
         [0 | 0x80, ..] => None,
-        [a @ ..0x80, ..] => Some((a.into(), 1)),
-        [a, b @ ..0x80, ..] => Some((u64::from(a & 0x7F) << 7 | u64::from(b), 2)),
-        [a, b, c @ ..0x80, ..] => Some((
+        [a @ ..=0x7F, ..] => Some((a.into(), 1)),
+        [a, b @ ..=0x7F, ..] => Some((u64::from(a & 0x7F) << 7 | u64::from(b), 2)),
+        [a, b, c @ ..=0x7F, ..] => Some((
             u64::from(a & 0x7F) << 14 | u64::from(b & 0x7F) << 7 | u64::from(c),
             3,
         )),
@@ -223,7 +212,8 @@ fn body(packet: &[u8]) -> Result<usize, Refusal> {
     }
 }
 
-/// The known tags, those of them not yet met, and the first known item that is at fault.
+/// The known tags, those of them not yet met, and the first known item that is at fault. The sets have a bit for every byte, so
+/// that a tag of one byte needs no test of its bounds.
 struct Known {
     knowing: [u64; 4],
     awaited: [u64; 4],
