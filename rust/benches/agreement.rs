@@ -30,7 +30,10 @@ const PLENTY: Lent = Lent {
 };
 
 /// Compares on these packets and on so many damaged ones, and answers how often each refusal was met, accepted packets at 0.
-pub fn compare_all(whole: &[Vec<u8>], damaged: usize) -> Result<[usize; 22], String> {
+pub fn compare_all<'a>(
+    whole: impl Iterator<Item = &'a Vec<u8>>,
+    damaged: usize,
+) -> Result<[usize; 22], String> {
     let mut met = [0; 22];
     for packet in whole {
         met[compare(packet, &PLENTY)?] += 1;

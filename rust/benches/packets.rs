@@ -62,7 +62,7 @@ pub fn typical() -> Vec<Item> {
 }
 
 /// 16 items a kilobyte: eight of the catalogue and eight carried ones, every fourth of these with a tag of two bytes.
-pub fn of_kilobytes(kilobytes: usize) -> Vec<u8> {
+fn of_kilobytes(kilobytes: usize) -> Vec<u8> {
     let pairs = 8 * kilobytes - 2;
     let carried_tag = |n: u64| if n % 4 == 3 { 128 + n } else { 92 + n % 36 };
     let mut items = vec![(TIME.0, TIME.1.to_vec()), (92, vec![]), (93, vec![])];

@@ -12,33 +12,28 @@ const DAMAGED_PACKETS: usize = 5000;
 const ROUNDS: usize = 301;
 const BATCH: Duration = Duration::from_micros(100);
 
-const NAMES: [&str; 5] = ["small", "typical", "full", "refused", "roomy"];
+const KINDS: [&str; 5] = ["small", "typical", "full", "refused", "roomy"];
+const SIZES: [&str; 4] = ["1KB", "2KB", "4KB", "8KB"];
 
 fn main() {
-    let rounds = std::env::args()
-        .skip(1)
-        .find_map(|word| word.parse().ok())
-        .unwrap_or(ROUNDS);
-    let named: Vec<_> = NAMES
-        .iter()
-        .filter_map(|name| Some((*name, packets::named(name)?)))
-        .collect();
-    let sized: Vec<_> = [1, 2, 4, 8]
-        .map(|size| (size, packets::of_kilobytes(size)))
-        .into();
-    let named_ones = named.iter().map(|(_, packet)| packet.clone());
-    let whole: Vec<_> = named_ones
-        .chain(sized.iter().map(|(_, packet)| packet.clone()))
-        .collect();
-    match agreement::compare_all(&whole, DAMAGED_PACKETS) {
+    let argument = std::env::args().find_map(|word| word.parse().ok());
+    let rounds = argument.map_or(ROUNDS, |rounds: usize| rounds.max(1));
+    let (kinds, sizes) = (with_names(&KINDS), with_names(&SIZES));
+    let whole = kinds.iter().chain(&sizes).map(|(_, packet)| packet);
+    match agreement::compare_all(whole, DAMAGED_PACKETS) {
         Ok(met) => print_agreement(&met),
         Err(difference) => {
             eprintln!("speed: {difference}");
             std::process::exit(1);
         }
     }
-    print_operations(&named, rounds);
-    print_sizes(&sized, rounds);
+    print_operations(&kinds, rounds);
+    print_sizes(&sizes, rounds);
+}
+
+fn with_names(names: &[&'static str]) -> Vec<(&'static str, Vec<u8>)> {
+    let packet = |name: &&'static str| Some((*name, packets::named(name)?));
+    names.iter().filter_map(packet).collect()
 }
 
 fn print_agreement(met: &[usize]) {
@@ -145,12 +140,12 @@ fn others(packet: &[u8], rounds: usize) -> Vec<(&'static str, f64)> {
     times
 }
 
-fn print_operations(named: &[(&str, Vec<u8>)], rounds: usize) {
+fn print_operations(kinds: &[(&str, Vec<u8>)], rounds: usize) {
     println!(
         "{:8} {:8} {:>6} {:>11} {:>7} {:>11} {:>7} {:>7}",
         "packet", "", "bytes", "library ns", "MB/s", "rival ns", "MB/s", "ratio"
     );
-    for (name, packet) in named {
+    for (name, packet) in kinds {
         let bytes = packet.len();
         let rate = |time: f64| bytes as f64 * 1000.0 / time;
         for (operation, (library, rival)) in contest(packet, rounds) {
@@ -175,16 +170,16 @@ fn print_operations(named: &[(&str, Vec<u8>)], rounds: usize) {
 }
 
 /// The same kind of items in packets of growing size: the cost of a byte stays.
-fn print_sizes(sized: &[(usize, Vec<u8>)], rounds: usize) {
+fn print_sizes(sizes: &[(&str, Vec<u8>)], rounds: usize) {
     println!(
         "{:8} {:8} {:>18} {:>16}",
         "size", "", "library ns a byte", "rival ns a byte"
     );
-    for (kilobytes, packet) in sized {
+    for (size, packet) in sizes {
         let a_byte = |time: f64| time / packet.len() as f64;
         for (operation, (library, rival)) in contest(packet, rounds) {
             let (library, rival) = (a_byte(library), a_byte(rival));
-            println!("{kilobytes} KB     {operation:8} {library:18.3} {rival:16.3}");
+            println!("{size:8} {operation:8} {library:18.3} {rival:16.3}");
         }
     }
 }
