@@ -182,15 +182,18 @@ fn next_item(packet: &[u8], start: usize) -> Result<Item, Refusal> {
     })
 }
 
-/// The sum of all sixteen-bit words, highest byte first, a last byte without a partner being a high one.
+/// Even places count 256 times, odd ones once: after the first byte every pair is a word with its lowest byte first, as the
+/// processor loads it.
 pub fn checksum(bytes: &[u8]) -> u16 {
-    let pairs = bytes.chunks_exact(2);
-    let unpaired = pairs
-        .remainder()
-        .first()
-        .map_or(0, |&byte| u16::from(byte) << 8);
-    let words = pairs.map(|pair| u16::from_be_bytes([pair[0], pair[1]]));
-    words.fold(unpaired, u16::wrapping_add)
+    let Some((&first, rest)) = bytes.split_first() else {
+        return 0;
+    };
+    let pairs = rest.chunks_exact(2);
+    let unpaired = pairs.remainder().first().map_or(0, |&byte| byte.into());
+    let words = pairs.map(|pair| u16::from_le_bytes([pair[0], pair[1]]));
+    words
+        .fold(unpaired, u16::wrapping_add)
+        .wrapping_add(u16::from(first) << 8)
 }
 
 fn good(low: u64, high: u64) -> bool {
