@@ -1,2 +1,6 @@
+pub mod Sending
+pub mod Walking
+pub mod Items
+pub mod Anew
 pub mod Steps
 pub mod Outcomes

@@ -1,39 +1,27 @@
--- What is sent on, by what the reader and then the writer answered.
+-- What is sent, by how much room there is; and that the answers tell each other apart.
 -- Assumes nothing.
-use mathlib.Core.Path.{_≡_, ap, sym, _∙_}
+use Prim.Native.Nat.{ℕ, _<_, _≤_}
+use mathlib.Core.Path.{_≡_, ap, _∙_}
 use mathlib.Core.List.{List}
-use Prim.Native.Nat.{ℕ}
+use lib.ListN.{length}
+use borrow.Author.Tests.{lt-ltb, le-ltb}
 use Rattle.base.specs.Cases.{never}
-use Rattle.refusal.specs.Answer.{given, refusal}
-use Rattle.refusal.specs.declared.Refusal.{Refusal}
+use Rattle.base.specs.Putting.{putInto, put-front}
+use Rattle.refusal.specs.Answer.{given, refused}
 use Rattle.refusal.proofs.Laws.{refusal-apart}
-use Rattle.tagset.specs.declared.TagSet.{TagSet}
-use Rattle.packet.specs.Rows.{readAnswer}
-use Rattle.reader.specs.Reads.{Reads, readSaid}
-use Rattle.reader.specs.declared.Reading.{Reading}
-use Rattle.reader.specs.declared.Reading.the-variants as reading
-use Rattle.reader.specs.declared.Filled.{Filled}
-use Rattle.writer.specs.Writes.{Writes, writeAnswer, writeOutput, writeSaid}
-use Rattle.writer.specs.declared.Writing.{Writing}
-use Rattle.relay.specs.Forwards.{Forwards, ownTable, answerAfter, outputAfter, forwardAnswer, forwardOutput, forwardSaid}
+use Rattle.relay.specs.Forwards.{forwardSaid}
+use Rattle.relay.specs.Sends.{Sends}
 use Rattle.relay.specs.declared.Forwarding.{Forwarding}
 use Rattle.relay.specs.declared.Forwarding.the-variants.{Packet, Refused}
 
-module _ (K : TagSet) (p o : List ℕ) (r : Reading) (t : List ℕ) (d : Reads K p ownTable r t) where
-  pub not-read : (x : Refusal) → r ≡ reading.Refused x → Forwards K p o (Refused x) o
-  unfolding forwardAnswer forwardOutput
-  not-read x e =
-      let f : readAnswer K p ownTable ≡ refusal x = sym (d .answer) ∙ ap readSaid e in
-      record { answer = sym (ap (answerAfter K p o) f); output = sym (ap (outputAfter K p o) f) }
+module _ (q o : List ℕ) where
+  pub too-short : length o < length q → (r : Forwarding) → forwardSaid r ≡ refused 18 0 0 → Sends q o r o
+  too-short h r s = record { answer = s ∙ rw (lt-ltb (length o) (length q) h); output = rw (lt-ltb (length o) (length q) h) }
 
-  pub then-written : (x : Filled) → r ≡ reading.Rows x → (w : Writing) (o′ : List ℕ) → Writes K (x .count) t p o w o′ → (f : Forwarding) → forwardSaid f ≡ writeSaid w → Forwards K p o f o′
-  unfolding forwardAnswer forwardOutput
-  then-written x e w o′ h f s =
-      let g : readAnswer K p ownTable ≡ given (x .count) = sym (d .answer) ∙ ap readSaid e in
-      record {
-        answer = s ∙ (h .answer ∙ (ap (λ l. writeAnswer K (x .count) l p o) (d .table) ∙ sym (ap (answerAfter K p o) g)));
-        output = h .output ∙ (ap (λ l. writeOutput K (x .count) l p o) (d .table) ∙ sym (ap (outputAfter K p o) g));
-      }
+  pub all-sent : (size : ℕ) → size ≡ length q → size ≤ length o → (o′ : List ℕ) → o′ ≡ putInto o 0 q → Sends q o (Packet (record { size = size })) o′
+  all-sent size e h o′ f =
+      let k : length q ≤ length o = rw (← e) h in
+      record { answer = ap given e ∙ rw (le-ltb (length o) (length q) k); output = f ∙ (put-front o q k ∙ rw (le-ltb (length o) (length q) k)) }
 
 pub forward-apart : (a b : Forwarding) → forwardSaid a ≡ forwardSaid b → a ≡ b
 forward-apart (Packet x) (Packet y) e =

@@ -1,10 +1,19 @@
-// The relay: a packet read and written again, with all that it does not know.
+// The relay: a packet sent on, with all that it does not know.
 // Whoever reads what was sent on reads what the original says; a refusal leaves the output.
+ghost use mathlib.Core.Path.{_≡_};
+ghost use Prim.Native.Nat.{_+_, _≤_};
+ghost use lib.ListN.{length};
+ghost use Rattle.base.specs.Putting.{putInto};
+ghost use Rattle.packet.specs.Headers.{itemBy};
+ghost use Rattle.packet.specs.Encode.{itemBytes, canonical};
 ghost use Rattle.relay.specs.Forwards.{Forwards};
-use reader::Reading;
+ghost use Rattle.relay.specs.Sends.{itemsFor, ItemsFrom, Sends};
+use packet::Checked;
+use packet::Header;
+use packet::Step;
+use refusal::Reason;
 use refusal::Refusal;
 use tagset::TagSet;
-use writer::Writing;
 
 // A packet sent on: how many bytes of the output it takes.
 pub struct Sent {
@@ -16,16 +25,112 @@ pub enum Forwarding {
     Refused(Refusal),
 }
 
-// Reads a packet and writes all its rows, the packet being the buffer. A refusal leaves the output as it was.
+// How many bytes an item takes, its length in the shortest form.
+fn item_size(packet: &[u8], item: Header) -> usize
+    requires { ⌜ (item .place + item .size ≤ length (now packet)) × (length (itemBytes (itemBy (now packet) item .piece)) ≤ 8192) ⌝ }
+    ensures { λ r. ⌜ r ≡ length (itemBytes (itemBy (now (packet .entry)) item .piece)) ⌝ }
+{
+    let size = item.size;
+    ber::tag_size(item.tag) + ber::length_size(size as u64) + size
+}
+
+// And all items of an accepted packet together.
+fn items_size(packet: &[u8], from: usize) -> usize
+    requires { ⌜ ItemsFrom (now packet) from ⌝ }
+    ensures { λ r. ⌜ r ≡ length (itemsFor (now (packet .entry))) ⌝ }
+{
+    let mut here = from;
+    let mut size: usize = 0;
+    while here < packet.len() {
+        match packet::item_at(packet, here) {
+            Step::Refused(_) => {
+                return size;
+            }
+            Step::Item(item) => {
+                size += item_size(packet, item);
+                here = item.place + item.size;
+            }
+        }
+    }
+    size
+}
+
+// An item, its value as it stands in the packet, and the place after it.
+fn put_item(out: &mut [u8], at: usize, packet: &[u8], item: Header) -> usize
+    requires { ⌜ (item .place + item .size ≤ length (now packet)) × (at + length (itemBytes (itemBy (now packet) item .piece)) ≤ length (now out)) ⌝ }
+    ensures { λ r. ⌜ (r ≡ at + length (itemBytes (itemBy (now (packet .entry)) item .piece))) × (now (out .exit) ≡ putInto (now (out .entry)) at (itemBytes (itemBy (now (packet .entry)) item .piece))) ⌝ }
+{
+    let size = item.size;
+    let from = item.place;
+    let end = from + size;
+    let after = at + ber::put_tag(out, at, item.tag);
+    let place = after + ber::put_length(out, after, size as u64);
+    spelling::put_text(out, place, &packet[from..end]);
+    place + size
+}
+
+// All items, one after another.
+fn put_items(out: &mut [u8], start: usize, packet: &[u8], from: usize)
+    requires { ⌜ ItemsFrom (now packet) from × (start + length (itemsFor (now packet)) ≤ length (now out)) ⌝ }
+    ensures { λ _. ⌜ now (out .exit) ≡ putInto (now (out .entry)) start (itemsFor (now (packet .entry))) ⌝ }
+{
+    let mut at = start;
+    let mut here = from;
+    while here < packet.len() {
+        match packet::item_at(packet, here) {
+            Step::Refused(_) => {
+                return;
+            }
+            Step::Item(item) => {
+                at = put_item(out, at, packet, item);
+                here = item.place + item.size;
+            }
+        }
+    }
+}
+
+// The packet anew: its key, the length and the items in their shortest forms, and the checksum of all before its value.
+fn put_anew(out: &mut [u8], size: usize, items: usize, packet: &[u8], from: usize)
+    requires { ⌜ ItemsFrom (now packet) from × (size ≡ length (canonical (now packet))) × (items ≡ length (itemsFor (now packet))) × (size ≤ length (now out)) ⌝ }
+    ensures { λ _. ⌜ now (out .exit) ≡ putInto (now (out .entry)) 0 (canonical (now (packet .entry))) ⌝ }
+{
+    spelling::put_text(out, 0, &packet[..16]);
+    let start = 16 + ber::put_length(out, 16, items as u64);
+    put_items(out, start, packet, from);
+    let end = size - 2;
+    let sum = checksum::checksum(&out[..end]) as u64;
+    number::put(&mut out[end..size], sum);
+}
+
+// An accepted packet, if there is room for what is sent on. Where that has as many bytes, every form was the shortest already,
+// and it is the packet itself.
+fn send(packet: &[u8], from: usize, out: &mut [u8]) -> Forwarding
+    requires { ⌜ ItemsFrom (now packet) from ⌝ }
+    ensures { λ r. ⌜ Sends (canonical (now (packet .entry))) (now (out .entry)) r (now (out .exit)) ⌝ }
+{
+    let items = items_size(packet, from);
+    let size = 16 + ber::length_size(items as u64) + items;
+    if out.len() < size {
+        return Forwarding::Refused(Refusal {
+            reason: Reason::OutputTooShort,
+            place: 0,
+            tag: 0,
+        });
+    }
+    if size == packet.len() {
+        spelling::put_text(out, 0, packet);
+    } else {
+        put_anew(out, size, items, packet, from);
+    }
+    Forwarding::Packet(Sent { size })
+}
+
+// Sends a packet on, in its shortest form. A refusal leaves the output as it was.
 pub fn forward(known: TagSet, packet: &[u8], out: &mut [u8]) -> Forwarding
     ensures { λ r. ⌜ Forwards known (now (packet .entry)) (now (out .entry)) r (now (out .exit)) ⌝ }
 {
-    let mut table = [0u64; 512];
-    match reader::read(packet, known, &mut table) {
-        Reading::Refused(refusal) => Forwarding::Refused(refusal),
-        Reading::Rows(filled) => match writer::write(known, filled.count, &table, packet, out) {
-            Writing::Refused(refusal) => Forwarding::Refused(refusal),
-            Writing::Packet(written) => Forwarding::Packet(Sent { size: written.size }),
-        },
+    match packet::check(packet, known) {
+        Checked::Refused(refusal) => Forwarding::Refused(refusal),
+        Checked::Accepted(accepted) => send(packet, accepted.from, out),
     }
 }

@@ -28,23 +28,24 @@ key-bytes : bytesOf 8 keyHigh ++ bytesOf 8 keyLow ≡ key
 unfolding key bytesOf
 key-bytes = refl
 
-module _ (o : List ℕ) (n : ℕ) (h : 16 + length (lengthBytes n) ≤ length o) (o₁ o₂ : List ℕ) (e : o₁ ≡ putInto o 0 (bytesOf 8 keyHigh)) (f : o₂ ≡ putInto o₁ 8 (bytesOf 8 keyLow)) where
-  key-put : o₂ ≡ putInto o 0 key
-  key-put =
-      let a : length (bytesOf 8 keyHigh) ≡ 8 = length-bytesOf 8 keyHigh in
-      let b : length (bytesOf 8 keyLow) ≡ 8 = length-bytesOf 8 keyLow in
-      f ∙ (ap (λ l. putInto l 8 (bytesOf 8 keyLow)) e
-      ∙ (ap (λ m. putInto (putInto o 0 (bytesOf 8 keyHigh)) m (bytesOf 8 keyLow)) (sym (ap (λ m. 0 + m) a))
-      ∙ (put-more o 0 (bytesOf 8 keyHigh) (bytesOf 8 keyLow) (omega (arith, a, b))
-      ∙ ap (putInto o 0) key-bytes)))
+pub key-put : (o o₁ o₂ : List ℕ) → 16 ≤ length o → o₁ ≡ putInto o 0 (bytesOf 8 keyHigh) → o₂ ≡ putInto o₁ 8 (bytesOf 8 keyLow) → o₂ ≡ putInto o 0 key
+key-put o o₁ o₂ h e f =
+    let a : length (bytesOf 8 keyHigh) ≡ 8 = length-bytesOf 8 keyHigh in
+    let b : length (bytesOf 8 keyLow) ≡ 8 = length-bytesOf 8 keyLow in
+    f ∙ (ap (λ l. putInto l 8 (bytesOf 8 keyLow)) e
+    ∙ (ap (λ m. putInto (putInto o 0 (bytesOf 8 keyHigh)) m (bytesOf 8 keyLow)) (sym (ap (λ m. 0 + m) a))
+    ∙ (put-more o 0 (bytesOf 8 keyHigh) (bytesOf 8 keyLow) (omega (arith, a, b))
+    ∙ ap (putInto o 0) key-bytes)))
 
-  room : 16 + length (lengthBytes n) ≤ length o₂
-  room = rw (key-put, put-length o 0 key (omega (arith, length-key))) h
+-- the length after the key
+module _ (o : List ℕ) (n : ℕ) (h : 16 + length (lengthBytes n) ≤ length o) (o₁ : List ℕ) (e : o₁ ≡ putInto o 0 key) where
+  room : 16 + length (lengthBytes n) ≤ length o₁
+  room = rw (e, put-length o 0 key (omega (arith, length-key))) h
 
-  pub head-put : (k : ℕ) (o₃ : List ℕ) → Puts o₂ 16 (lengthBytes n) k o₃ → (16 + k ≡ 16 + length (lengthBytes n)) × (o₃ ≡ putInto o 0 (key ++ lengthBytes n))
-  head-put k o₃ p = (
-    ap (λ m. 16 + m) (p .counted ∙ put-count o₂ 16 (lengthBytes n) room),
-    p .after ∙ (ap (λ l. putInto l 16 (lengthBytes n)) key-put
+  pub head-put : (k : ℕ) (o₂ : List ℕ) → Puts o₁ 16 (lengthBytes n) k o₂ → (16 + k ≡ 16 + length (lengthBytes n)) × (o₂ ≡ putInto o 0 (key ++ lengthBytes n))
+  head-put k o₂ p = (
+    ap (λ m. 16 + m) (p .counted ∙ put-count o₁ 16 (lengthBytes n) room),
+    p .after ∙ (ap (λ l. putInto l 16 (lengthBytes n)) e
         ∙ (ap (λ m. putInto (putInto o 0 key) m (lengthBytes n)) (sym (ap (λ m. 0 + m) length-key))
         ∙ put-more o 0 key (lengthBytes n) (omega (arith, length-key)))),
   )

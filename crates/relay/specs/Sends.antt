@@ -1,0 +1,35 @@
+-- An accepted packet sent on, in the terms of the definitions.
+use Prim.Native.Nat.{ℕ}
+use mathlib.Core.Path.{_≡_}
+use mathlib.Core.Bool.{cond}
+use mathlib.Core.List.{List, _++_}
+use lib.Dec.{ltb}
+use lib.ListN.{length, drop}
+use Rattle.refusal.specs.Answer.{Answer, given, refused}
+use Rattle.packet.specs.Pieces.{Item, walk}
+use Rattle.packet.specs.Structure.{structure}
+use Rattle.packet.specs.Encode.{piecesIn, itemsBytes}
+use Rattle.relay.specs.Forwards.{forwardSaid}
+use Rattle.relay.specs.declared.Forwarding.{Forwarding}
+
+-- the items of a packet, as they are sent on
+abbrev pub itemsFor : List ℕ → List ℕ
+itemsFor p = itemsBytes (piecesIn (structure p))
+
+-- a packet whose structure is right, and whose items begin at a place
+pub record ItemsFrom (p : List ℕ) (from : ℕ) : Type 0 where
+  pub items : List Item
+  pub found : structure p ≡ given items
+  pub walked : walk 128 from (drop from p) ≡ given items
+
+-- bytes q sent: their number, or 18
+abbrev pub sentAnswer : List ℕ → List ℕ → Answer ℕ
+sentAnswer q o = cond (ltb (length o) (length q)) (refused 18 0 0) (given (length q))
+
+-- at the front of the output, where there is room for them
+abbrev pub sentOutput : List ℕ → List ℕ → List ℕ
+sentOutput q o = cond (ltb (length o) (length q)) o (q ++ drop (length q) o)
+
+pub record Sends (q o : List ℕ) (r : Forwarding) (o′ : List ℕ) : Type 0 where
+  pub answer : forwardSaid r ≡ sentAnswer q o
+  pub output : o′ ≡ sentOutput q o
