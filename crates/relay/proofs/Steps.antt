@@ -1,4 +1,4 @@
--- What is sent, by how much room there is; and that the answers tell each other apart.
+-- What is sent, by how much room there is; and that an answer is what it says.
 -- Assumes nothing.
 use Prim.Native.Nat.{ℕ, _<_, _≤_}
 use mathlib.Core.Path.{_≡_, ap, _∙_}
