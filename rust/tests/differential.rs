@@ -1,0 +1,210 @@
+//! The product against a twin written from document 01 alone, over seeded cases.
+//!
+//! `OYSTERKNOLL_SEED` sets the seed, `OYSTERKNOLL_CASES` the number of comparisons in all.
+
+#[path = "differential/bench.rs"]
+mod bench;
+#[path = "differential/catalogue.rs"]
+mod catalogue;
+#[path = "differential/compare.rs"]
+mod compare;
+#[path = "differential/conversions.rs"]
+mod conversions;
+#[path = "differential/damage.rs"]
+mod damage;
+#[path = "differential/demands.rs"]
+mod demands;
+#[path = "differential/laws.rs"]
+mod laws;
+#[path = "differential/lent.rs"]
+mod lent;
+#[path = "differential/make.rs"]
+mod make;
+#[path = "differential/random.rs"]
+mod random;
+#[path = "differential/tables.rs"]
+mod tables;
+#[path = "differential/twin.rs"]
+mod twin;
+#[path = "differential/twin_answers.rs"]
+mod twin_answers;
+#[path = "differential/twin_write.rs"]
+mod twin_write;
+#[path = "differential/wire.rs"]
+mod wire;
+#[path = "differential/worked.rs"]
+mod worked;
+
+use bench::{report, run, Bench, Law};
+use conversions::{house_law, scaled_tags};
+use twin::{Twin, ALTERATIONS};
+use twin_answers::Scale;
+
+/// The laws on packets, tables and listings, then the one on conversions.
+const LAWS: [Law; 7] = [
+    Law {
+        number: 1,
+        name: "reader",
+        share: 250_000,
+        refusals: &[1, 2, 3, 4, 5, 6, 7, 8, 9, 10, 11, 12, 13, 14, 15],
+        case: laws::reader,
+    },
+    Law {
+        number: 2,
+        name: "forwarder",
+        share: 110_000,
+        refusals: &[1, 3, 4, 5, 6, 7, 8, 9, 10, 11, 12, 13, 14, 15, 18],
+        case: laws::forwarder,
+    },
+    Law {
+        number: 3,
+        name: "rows taken out",
+        share: 150_000,
+        refusals: &[1, 16, 17],
+        case: laws::rows_taken_out,
+    },
+    Law {
+        number: 4,
+        name: "writer",
+        share: 150_000,
+        refusals: &[1, 3, 9, 10, 12, 13, 14, 15, 16, 17, 18],
+        case: laws::writer,
+    },
+    Law {
+        number: 5,
+        name: "heights and corners",
+        share: 150_000,
+        refusals: &[1, 3, 4, 5, 6, 7, 8, 9, 10, 11, 12, 13, 14, 15],
+        case: laws::heights_and_corners,
+    },
+    Law {
+        number: 6,
+        name: "listing",
+        share: 40_000,
+        refusals: &[3, 4, 5, 6, 7, 8, 9, 10, 11, 12, 13, 14, 15, 18],
+        case: laws::listing,
+    },
+    Law {
+        number: 7,
+        name: "conversions",
+        share: 200_000,
+        refusals: &[19, 20, 21],
+        case: conversions::conversions,
+    },
+];
+
+/// Laws on the product's own answers; their cases are beside the total.
+const WRITTEN_READS_BACK: Law = Law {
+    number: 8,
+    name: "written reads back",
+    share: 30_000,
+    refusals: &[],
+    case: demands::written_reads_back,
+};
+const FULLER_AND_POORER: Law = Law {
+    number: 9,
+    name: "fuller and poorer",
+    share: 50_000,
+    refusals: &[],
+    case: demands::fuller_and_poorer,
+};
+
+/// The comparisons of product and twin in the gate.
+pub const TOTAL: u64 = total();
+
+const fn total() -> u64 {
+    let mut sum = 0;
+    let mut refusals: u32 = 0;
+    let mut n = 0;
+    while n < LAWS.len() {
+        sum += LAWS[n].share;
+        let mut one = 0;
+        while one < LAWS[n].refusals.len() {
+            refusals |= 1 << LAWS[n].refusals[one];
+            one += 1;
+        }
+        n += 1;
+    }
+    // Refusals 1 to 21, each named by a law that fails if it never comes.
+    assert!(refusals == (1 << 22) - 2);
+    sum
+}
+
+const _: () = assert!(TOTAL >= 1_000_000);
+
+#[test]
+fn reader() {
+    run(&LAWS[0]);
+}
+
+#[test]
+fn forwarder() {
+    run(&LAWS[1]);
+}
+
+#[test]
+fn rows_taken_out() {
+    run(&LAWS[2]);
+}
+
+#[test]
+fn writer() {
+    run(&LAWS[3]);
+}
+
+#[test]
+fn heights_and_corners() {
+    run(&LAWS[4]);
+}
+
+#[test]
+fn listing() {
+    run(&LAWS[5]);
+}
+
+#[test]
+fn conversions_of_edges_and_samples() {
+    run(&LAWS[6]);
+}
+
+#[test]
+fn what_is_written_reads_back_as_it_was() {
+    run(&WRITTEN_READS_BACK);
+}
+
+#[test]
+fn a_poorer_receiver_agrees_with_a_fuller_one() {
+    run(&FULLER_AND_POORER);
+}
+
+#[test]
+fn every_code_of_one_and_two_bytes() {
+    let mut bench = Bench::new(Twin::TRUE);
+    for tag in scaled_tags() {
+        let scale = Scale::of(tag).expect("a scaled tag has a scale");
+        if scale.bits > 16 {
+            continue;
+        }
+        for code in 0..1 << scale.bits {
+            let verdict = bench.comparer.to_house(tag, code);
+            let verdict = verdict.and_then(|()| house_law(tag, scale, code));
+            if let Err(difference) = verdict {
+                panic!("{difference}");
+            }
+        }
+    }
+    report("every short code", &bench.comparer.tally);
+    assert_eq!(bench.comparer.tally.cases, 25 * 65_536 + 6 * 256);
+}
+
+/// A twin with one rule told wrongly differs from the product within few cases.
+#[test]
+fn every_alteration_is_noticed() {
+    for alteration in ALTERATIONS {
+        let mut bench = Bench::new(Twin::altered(alteration));
+        let noticed =
+            (0..20_000).find(|&case| LAWS.iter().any(|law| bench.try_case(law, case).is_err()));
+        println!("{alteration:?}: noticed in round {noticed:?}");
+        assert!(noticed.is_some(), "{alteration:?} is not noticed");
+    }
+}

@@ -1,0 +1,149 @@
+//! Document 01's catalogue, typed from its table.
+
+/// How an item of the catalogue is stored; scales are in house units.
+#[derive(Clone, Copy, PartialEq, Eq, Debug)]
+pub enum Form {
+    /// A number without scale; codes above `last` are refused by 14.
+    Plain {
+        bytes: usize,
+        last: u64,
+    },
+    Unsigned {
+        bytes: usize,
+        low: i64,
+        high: i64,
+    },
+    /// From minus `high` to `high`; the lowest code is a mark.
+    Signed {
+        bytes: usize,
+        high: i64,
+    },
+    /// Item 39: one degree a code, no mark.
+    Celsius,
+    Text,
+}
+
+const DEGREE: i64 = 10_000_000;
+const METRE: i64 = 1_000;
+const METRE_A_SECOND: i64 = 1_000;
+const MILLIBAR: i64 = 1_000;
+const PERCENT: i64 = 1_000;
+pub const DEGREE_CELSIUS: i64 = 1_000;
+
+const fn plain(bytes: usize, last: u64) -> Form {
+    Form::Plain { bytes, last }
+}
+
+const fn unsigned(bytes: usize, low: i64, high: i64) -> Form {
+    Form::Unsigned { bytes, low, high }
+}
+
+const fn signed(bytes: usize, high: i64) -> Form {
+    Form::Signed { bytes, high }
+}
+
+const GROUPS: [(&[u64], Form); 23] = [
+    (&[5, 35, 64, 71], unsigned(2, 0, 360 * DEGREE)),
+    (&[6], signed(2, 20 * DEGREE)),
+    (&[7], signed(2, 50 * DEGREE)),
+    (&[8, 9, 56], unsigned(1, 0, 255 * METRE_A_SECOND)),
+    (
+        &[13, 23, 67, 82, 84, 86, 88, 90, 91],
+        signed(4, 90 * DEGREE),
+    ),
+    (&[14, 19, 24, 68, 83, 85, 87, 89], signed(4, 180 * DEGREE)),
+    (
+        &[15, 25, 38, 75, 78],
+        unsigned(2, -900 * METRE, 19_000 * METRE),
+    ),
+    (&[16, 17], unsigned(2, 0, 180 * DEGREE)),
+    (&[18, 20], unsigned(4, 0, 360 * DEGREE)),
+    (&[21, 57], unsigned(4, 0, 5_000_000 * METRE)),
+    (&[22], unsigned(2, 0, 10_000 * METRE)),
+    (
+        &[26, 27, 28, 29, 30, 31, 32, 33],
+        signed(2, 75 * DEGREE / 1_000),
+    ),
+    (&[36], unsigned(1, 0, 100 * METRE_A_SECOND)),
+    (&[55], unsigned(1, 0, 100 * PERCENT)),
+    (&[37], unsigned(2, 0, 5_000 * MILLIBAR)),
+    (&[39], Form::Celsius),
+    (&[79, 80], signed(2, 327 * METRE_A_SECOND)),
+    (&[1], plain(2, u16::MAX as u64)),
+    (&[2], plain(8, u64::MAX)),
+    (&[65], plain(1, u8::MAX as u64)),
+    (&[34], plain(1, 2)),
+    (&[63], plain(1, 8)),
+    (&[3, 4, 10, 11, 12, 59, 70], Form::Text),
+];
+
+static BY_TAG: [Option<Form>; 128] = by_tag();
+
+const fn by_tag() -> [Option<Form>; 128] {
+    let mut forms = [None; 128];
+    let mut group = 0;
+    while group < GROUPS.len() {
+        let (tags, form) = GROUPS[group];
+        let mut n = 0;
+        while n < tags.len() {
+            assert!(forms[tags[n] as usize].is_none());
+            forms[tags[n] as usize] = Some(form);
+            n += 1;
+        }
+        group += 1;
+    }
+    forms
+}
+
+/// The catalogue's word on a tag, if it has one.
+pub fn form(tag: u64) -> Option<Form> {
+    BY_TAG.get(usize::try_from(tag).ok()?).copied().flatten()
+}
+
+/// All tags of the catalogue, as a knowing set.
+pub const ALL: u128 = all();
+
+const fn all() -> u128 {
+    let forms = by_tag();
+    let mut set = 0;
+    let mut tag = 0;
+    while tag < 128 {
+        if forms[tag].is_some() {
+            set |= 1 << tag;
+        }
+        tag += 1;
+    }
+    set
+}
+
+/// The smallest good knowing set: tags 1, 2 and 65.
+pub const SMALLEST: u128 = 1 << 1 | 1 << 2 | 1 << 65;
+
+pub fn knows(set: u128, tag: u64) -> bool {
+    tag < 128 && set >> tag & 1 == 1
+}
+
+pub fn tags_of(set: u128) -> impl Iterator<Item = u64> {
+    (0..128).filter(move |&tag| knows(set, tag))
+}
+
+impl Form {
+    /// The bytes of a number; nothing for text.
+    pub fn bytes(self) -> Option<usize> {
+        match self {
+            Form::Plain { bytes, .. } => Some(bytes),
+            Form::Unsigned { bytes, .. } => Some(bytes),
+            Form::Signed { bytes, .. } => Some(bytes),
+            Form::Celsius => Some(1),
+            Form::Text => None,
+        }
+    }
+
+    /// The code that is a mark, not a number.
+    pub fn mark(self) -> Option<u64> {
+        match self {
+            Form::Signed { bytes, .. } => Some(1 << (8 * bytes - 1)),
+            _ => None,
+        }
+    }
+}

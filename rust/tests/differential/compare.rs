@@ -1,0 +1,304 @@
+//! The product's answer and all memory lent to it, held against the twin's word.
+
+use std::fmt::Debug;
+
+use oysterknoll::{Content, Corner, Height, Knowing, Refusal};
+
+use crate::lent::Lent;
+use crate::twin::{refused, Refused, Row, Twin, CARRIED, MARK, READING, TEXT};
+use crate::twin_answers::{TwinCorner, TwinHeight};
+use crate::twin_write::Rows;
+
+/// Nothing, or how product and twin differ.
+pub type Verdict = Result<(), String>;
+
+/// How many comparisons there were, how many were accepted, and how often each refusal came.
+#[derive(Clone, Copy, Default)]
+pub struct Tally {
+    pub cases: u64,
+    pub accepted: u64,
+    pub refusals: [u64; 22],
+}
+
+/// Calls the product and the twin alike.
+pub struct Comparer {
+    pub twin: Twin,
+    pub tally: Tally,
+    table: Lent<u64>,
+    out: Lent<u8>,
+}
+
+/// What was asked, for the report of a difference.
+struct Asked<'a> {
+    function: &'a str,
+    bytes: &'a [u8],
+    words: &'a [u64],
+    set: u128,
+    rest: &'a [usize],
+}
+
+pub const MOST_OUT: usize = 22_000;
+
+pub fn knowing(set: u128) -> Knowing {
+    Knowing::from_words(set as u64, (set >> 64) as u64)
+}
+
+pub fn of_product(refusal: Refusal) -> Refused {
+    refused(refusal.number(), refusal.place, refusal.tag)
+}
+
+impl Comparer {
+    pub fn new(twin: Twin) -> Comparer {
+        Comparer {
+            twin,
+            tally: Tally::default(),
+            table: Lent::new(544, |n| 0xA5A5_0000_0000_0001 + 7 * n as u64),
+            out: Lent::new(MOST_OUT, |n| (n * 7 + n / 256) as u8 | 1),
+        }
+    }
+
+    pub fn check(&mut self, packet: &[u8], set: u128) -> Verdict {
+        let twin = self.twin.read(packet, set, None).map(|rows| rows.len());
+        let product = oysterknoll::check(packet, knowing(set));
+        self.agree(Asked::of("check", packet, set), product, twin, true)
+    }
+
+    pub fn read(&mut self, packet: &[u8], set: u128, table_words: usize) -> Verdict {
+        let asked = Asked::of("read", packet, set);
+        let rows = self.twin.read(packet, set, Some(table_words));
+        let table = self.table.lend(table_words);
+        let product = oysterknoll::read(packet, knowing(set), table);
+        let same = match (&product, &rows) {
+            (Ok(product), Ok(rows)) => same_rows(product, rows, packet),
+            _ => true,
+        };
+        let product = product.map(|rows| rows.len());
+        let table = rows.as_ref().map(|rows| self.twin.table(rows));
+        let memory_is_right = self.table.holds_only(&table.unwrap_or_default());
+        let twin = rows.map(|rows| rows.len());
+        self.agree(
+            asked.with(&[table_words]),
+            product,
+            twin,
+            same && memory_is_right,
+        )
+    }
+
+    pub fn take_row(&mut self, lent: Rows, n: usize) -> Verdict {
+        let asked = Asked::of_rows("take_row", lent);
+        let twin = self.twin.taken_row(lent, n);
+        let set = knowing(lent.set);
+        let product = oysterknoll::take_row(lent.words, lent.count, n, lent.buffer, set);
+        let same = match (&product, &twin) {
+            (Ok(product), Ok(row)) => same_row(product, row, lent.buffer),
+            _ => true,
+        };
+        let product = product.map(|row| row.tag);
+        let twin = twin.map(|row| row.tag);
+        self.agree(asked.with(&[lent.count, n]), product, twin, same)
+    }
+
+    /// `room` gives the output's length for the length that is needed.
+    pub fn write(&mut self, lent: Rows, room: impl FnOnce(usize) -> usize) -> Verdict {
+        let asked = Asked::of_rows("write", lent);
+        let written = self.twin.written(lent);
+        let length = room(written.as_ref().map_or(64, Vec::len));
+        let out = self.out.lend(length);
+        let set = knowing(lent.set);
+        let product = oysterknoll::write(lent.words, lent.count, lent.buffer, set, out);
+        self.agree_on_bytes(asked.with(&[lent.count, length]), product, written, length)
+    }
+
+    pub fn forward(
+        &mut self,
+        packet: &[u8],
+        set: u128,
+        room: impl FnOnce(usize) -> usize,
+    ) -> Verdict {
+        let asked = Asked::of("forward", packet, set);
+        let forwarded = self.twin.forwarded(packet, set);
+        let length = room(forwarded.as_ref().map_or(64, Vec::len));
+        let out = self.out.lend(length);
+        let product = oysterknoll::forward(packet, knowing(set), out);
+        self.agree_on_bytes(asked.with(&[length]), product, forwarded, length)
+    }
+
+    pub fn list(&mut self, packet: &[u8], room: impl FnOnce(usize) -> usize) -> Verdict {
+        let listing = self.twin.listing(packet).map(String::into_bytes);
+        let length = room(listing.as_ref().map_or(64, Vec::len));
+        let out = self.out.lend(length);
+        let product = oysterknoll::list(packet, out);
+        let asked = Asked::of("list", packet, 0);
+        self.agree_on_bytes(asked.with(&[length]), product, listing, length)
+    }
+
+    pub fn to_house(&mut self, tag: u64, code: u64) -> Verdict {
+        let twin = self.twin.to_house(tag, code);
+        let product = oysterknoll::to_house(tag, code);
+        let asked = Asked::of("to_house", &[], 0);
+        self.agree(
+            asked.with(&[tag as usize, code as usize]),
+            product,
+            twin,
+            true,
+        )
+    }
+
+    pub fn to_code(&mut self, tag: u64, value: i64) -> Verdict {
+        let twin = self.twin.to_code(tag, value);
+        let product = oysterknoll::to_code(tag, value);
+        let asked = Asked::of("to_code", &[], 0);
+        self.agree(
+            asked.with(&[tag as usize, value as usize]),
+            product,
+            twin,
+            true,
+        )
+    }
+
+    pub fn heights(&mut self, packet: &[u8], set: u128) -> Verdict {
+        let twin = self.twin.sensor_height(packet, set);
+        let product = oysterknoll::sensor_height(packet, knowing(set)).map(height);
+        self.agree(Asked::of("sensor_height", packet, set), product, twin, true)?;
+        let twin = self.twin.frame_centre_height(packet, set);
+        let product = oysterknoll::frame_centre_height(packet, knowing(set)).map(height);
+        let asked = Asked::of("frame_centre_height", packet, set);
+        self.agree(asked, product, twin, true)
+    }
+
+    pub fn corner(&mut self, packet: &[u8], set: u128, k: u64) -> Verdict {
+        let twin = self.twin.corner(packet, set, k);
+        let product = oysterknoll::corner(packet, knowing(set), k).map(corner);
+        let asked = Asked::of("corner", packet, set);
+        self.agree(asked.with(&[k as usize]), product, twin, true)
+    }
+
+    /// An answer that is a number of bytes at the output's beginning; too short an output is 18.
+    fn agree_on_bytes(
+        &mut self,
+        asked: Asked,
+        product: Result<usize, Refusal>,
+        bytes: Result<Vec<u8>, Refused>,
+        length: usize,
+    ) -> Verdict {
+        let bytes = match bytes {
+            Ok(bytes) if bytes.len() > length => Err(refused(18, 0, 0)),
+            bytes => bytes,
+        };
+        let written = bytes.as_ref().map_or(&[][..], |bytes| &bytes[..]);
+        let memory_is_right = self.out.holds_only(written);
+        let twin = bytes.map(|bytes| bytes.len());
+        self.agree(asked, product, twin, memory_is_right)
+    }
+
+    fn agree<T: PartialEq + Debug>(
+        &mut self,
+        asked: Asked,
+        product: Result<T, Refusal>,
+        twin: Result<T, Refused>,
+        rest_is_right: bool,
+    ) -> Verdict {
+        let product = product.map_err(of_product);
+        self.tally.cases += 1;
+        match &product {
+            Ok(_) => self.tally.accepted += 1,
+            Err(refusal) => self.tally.refusals[refusal.number as usize] += 1,
+        }
+        if product == twin && rest_is_right {
+            return Ok(());
+        }
+        let memory = if rest_is_right {
+            ""
+        } else {
+            "; rows or lent memory differ"
+        };
+        Err(format!(
+            "{asked}: product {product:?}, twin {twin:?}{memory}"
+        ))
+    }
+}
+
+impl<'a> Asked<'a> {
+    fn of(function: &'a str, bytes: &'a [u8], set: u128) -> Asked<'a> {
+        Asked {
+            function,
+            bytes,
+            words: &[],
+            set,
+            rest: &[],
+        }
+    }
+
+    fn of_rows(function: &'a str, lent: Rows<'a>) -> Asked<'a> {
+        Asked {
+            words: lent.words,
+            ..Asked::of(function, lent.buffer, lent.set)
+        }
+    }
+
+    fn with(self, rest: &'a [usize]) -> Asked<'a> {
+        Asked { rest, ..self }
+    }
+}
+
+impl std::fmt::Display for Asked<'_> {
+    fn fmt(&self, f: &mut std::fmt::Formatter) -> std::fmt::Result {
+        let hex: String = self
+            .bytes
+            .iter()
+            .map(|byte| format!("{byte:02X}"))
+            .collect();
+        write!(
+            f,
+            "{} of bytes [{hex}], words {:X?}, set {:X}, numbers {:?}",
+            self.function, self.words, self.set, self.rest
+        )
+    }
+}
+
+fn height(height: Height) -> TwinHeight {
+    match height {
+        Height::OverEllipsoid(height) => TwinHeight::OverEllipsoid(height.0),
+        Height::OverSeaLevel(height) => TwinHeight::OverSeaLevel(height.0),
+        Height::Missing => TwinHeight::Missing,
+        _ => panic!("a kind of height that document 01 does not have"),
+    }
+}
+
+fn corner(corner: Corner) -> TwinCorner {
+    match corner {
+        Corner::At(point) => TwinCorner::At(point.latitude, point.longitude),
+        Corner::OffTheEarth => TwinCorner::OffTheEarth,
+        Corner::Missing => TwinCorner::Missing,
+        _ => panic!("a kind of corner that document 01 does not have"),
+    }
+}
+
+fn same_rows(product: &oysterknoll::Rows, rows: &[Row], packet: &[u8]) -> bool {
+    let words = rows.iter().flat_map(|row| row.words());
+    product.len() == rows.len()
+        && product.words().iter().copied().eq(words)
+        && product.get(rows.len()).is_none()
+        && product
+            .iter()
+            .zip(rows)
+            .all(|(product, row)| same_row(&product, row, packet))
+}
+
+/// Whether a row taken out is the twin's, its value being that part of the buffer.
+fn same_row(product: &oysterknoll::Row, row: &Row, buffer: &[u8]) -> bool {
+    let same_content = match product.content {
+        Content::Reading(code) => row.kind == READING && code == row.code,
+        Content::Mark => row.kind == MARK,
+        Content::Text(value) => row.kind == TEXT && is_part(value, row, buffer),
+        Content::Carried(value) => row.kind == CARRIED && is_part(value, row, buffer),
+        _ => false,
+    };
+    product.tag == row.tag && same_content
+}
+
+fn is_part(value: &[u8], row: &Row, buffer: &[u8]) -> bool {
+    let part = &buffer[row.place..row.place + row.length];
+    // An empty value has no bytes that could be in the wrong place.
+    std::ptr::eq(value, part) || (value.is_empty() && part.is_empty())
+}

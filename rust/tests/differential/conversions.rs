@@ -1,0 +1,147 @@
+//! Codes and house units: edges, samples and all short codes, with the laws of nearness.
+
+use crate::bench::Bench;
+use crate::catalogue::{form, tags_of, ALL};
+use crate::compare::Verdict;
+use crate::make::Maker;
+use crate::twin_answers::Scale;
+
+/// Tags without scale, and none of the catalogue's.
+const NO_SCALE: [u64; 16] = [
+    0,
+    1,
+    2,
+    3,
+    34,
+    40,
+    63,
+    65,
+    70,
+    127,
+    128,
+    133,
+    154,
+    1 << 32 | 5,
+    1 << 63 | 26,
+    u64::MAX,
+];
+
+pub fn scaled_tags() -> impl Iterator<Item = u64> {
+    tags_of(ALL).filter(|&tag| Scale::of(tag).is_some())
+}
+
+/// One tag in each direction, over edges and samples.
+pub fn conversions(bench: &mut Bench) -> Verdict {
+    let maker = &mut bench.maker;
+    let tag = maker.random.below(128) as u64;
+    let Some(scale) = Scale::of(tag) else {
+        let tag = maker.random.pick(&NO_SCALE);
+        let any = maker.random.next();
+        bench.comparer.to_house(tag, any)?;
+        bench.comparer.to_house(tag, any & 3)?;
+        bench.comparer.to_code(tag, any as i64)?;
+        return bench.comparer.to_code(tag, 0);
+    };
+    for _ in 0..4 {
+        let code = maker.any_code(scale);
+        bench.comparer.to_house(tag, code)?;
+        house_law(tag, scale, code)?;
+        let value = maker.any_value(scale);
+        bench.comparer.to_code(tag, value)?;
+        code_law(tag, scale, value)?;
+    }
+    Ok(())
+}
+
+impl Maker {
+    /// A code of the item's width mostly, else one too wide.
+    fn any_code(&mut self, scale: Scale) -> u64 {
+        let code = self.code(scale.bits as usize / 8);
+        match self.random.below(12) {
+            0 => code | 1 << self.random.between(scale.bits as usize, 63),
+            1 => scale.number(code) as i64 as u64,
+            2 => u64::MAX - self.random.below(4) as u64,
+            3 => code & 7,
+            _ => code,
+        }
+    }
+
+    /// A value in the range mostly: any, at an end, or about a tie; else one outside.
+    fn any_value(&mut self, scale: Scale) -> i64 {
+        let about = self.random.below(5) as i64 - 2;
+        match self.random.below(12) {
+            0 => scale.low.saturating_add(about),
+            1 => scale.high.saturating_add(about),
+            2 => about,
+            3 => self
+                .random
+                .pick(&[i64::MIN, i64::MIN + 1, i64::MAX, i64::MAX - 1]),
+            4 => self.random.next() as i64,
+            5..=8 => {
+                let code = self.code(scale.bits as usize / 8);
+                let twice = 2 * scale.number(code) + 1;
+                let tie = scale.origin + twice * scale.range / (2 * scale.steps);
+                tie as i64 + about
+            }
+            _ => scale.low + self.random.below((scale.high - scale.low) as usize + 1) as i64,
+        }
+    }
+}
+
+/// The value answered is nearer than half a unit, since a tie never occurs.
+pub fn house_law(tag: u64, scale: Scale, code: u64) -> Verdict {
+    let Ok(value) = oysterknoll::to_house(tag, code) else {
+        return refused_rightly(is_code(tag, scale, code), || {
+            format!("code {code} of {tag}")
+        });
+    };
+    let distance =
+        (i128::from(value) - scale.origin) * scale.steps - scale.number(code) * scale.range;
+    let is_nearest = 2 * distance.abs() < scale.steps;
+    let is_inside = (scale.low..=scale.high).contains(&value);
+    // Where a step exceeds a house unit the code comes back.
+    let back = oysterknoll::to_code(tag, value).map_err(|refusal| refusal.to_string())?;
+    let comes_back = scale.range <= scale.steps || back == code;
+    holds(
+        is_code(tag, scale, code) && is_nearest && is_inside && comes_back,
+        || format!("code {code} of {tag} to {value} and back to {back}"),
+    )
+}
+
+/// The code answered is nearest; at a tie it is the one away from the low end, or from zero if signed.
+pub fn code_law(tag: u64, scale: Scale, value: i64) -> Verdict {
+    let is_inside = (scale.low..=scale.high).contains(&value);
+    let Ok(code) = oysterknoll::to_code(tag, value) else {
+        return refused_rightly(is_inside, || format!("value {value} of {tag}"));
+    };
+    let answered = scale.number(code) * scale.range;
+    let exact = (i128::from(value) - scale.origin) * scale.steps;
+    let twice = 2 * (answered - exact).abs();
+    let is_nearest = twice < scale.range || (twice == scale.range && answered.abs() > exact.abs());
+    let back = oysterknoll::to_house(tag, code).map_err(|refusal| refusal.to_string())?;
+    // Half a step plus half a unit, in units of 1 / (2 × steps).
+    let apart = 2 * (i128::from(back) - i128::from(value)).abs() * scale.steps;
+    let is_near = apart <= scale.range + scale.steps;
+    let comes_back = scale.range >= scale.steps || back == value;
+    let law = is_inside && is_code(tag, scale, code) && is_nearest && is_near && comes_back;
+    holds(law, || {
+        format!("value {value} of {tag} to code {code} and back to {back}")
+    })
+}
+
+/// Whether a code is neither too wide nor a mark.
+fn is_code(tag: u64, scale: Scale, code: u64) -> bool {
+    code >> scale.bits == 0 && form(tag).and_then(|form| form.mark()) != Some(code)
+}
+
+fn refused_rightly(acceptable: bool, what: impl FnOnce() -> String) -> Verdict {
+    holds(!acceptable, || what() + " refused")
+}
+
+fn holds(law: bool, what: impl FnOnce() -> String) -> Verdict {
+    if law {
+        Ok(())
+    } else {
+        Err(what())
+    }
+}

@@ -1,0 +1,98 @@
+//! What a case of each law is.
+
+use oysterknoll::LONGEST_LISTING;
+
+use crate::bench::Bench;
+use crate::compare::{Verdict, MOST_OUT};
+use crate::random::Random;
+
+/// The lengths a lent table may have, most often a sufficient one.
+const TABLE_WORDS: [usize; 12] = [0, 1, 511, 512, 512, 512, 512, 513, 513, 520, 520, 544];
+
+pub fn reader(bench: &mut Bench) -> Verdict {
+    bench.maker.packet(&mut bench.packet);
+    for _ in 0..2 {
+        let set = bench.maker.set();
+        let table_words = bench.maker.random.pick(&TABLE_WORDS);
+        bench.comparer.check(&bench.packet, set)?;
+        bench.comparer.read(&bench.packet, set, table_words)?;
+    }
+    Ok(())
+}
+
+pub fn forwarder(bench: &mut Bench) -> Verdict {
+    bench.maker.packet(&mut bench.packet);
+    let set = bench.maker.set();
+    for _ in 0..2 {
+        let room = room(&mut bench.maker.random);
+        bench.comparer.forward(&bench.packet, set, room)?;
+    }
+    Ok(())
+}
+
+pub fn writer(bench: &mut Bench) -> Verdict {
+    bench.maker.table(&mut bench.table);
+    for _ in 0..2 {
+        let room = room(&mut bench.maker.random);
+        bench.comparer.write(bench.table.lent(), room)?;
+    }
+    Ok(())
+}
+
+pub fn rows_taken_out(bench: &mut Bench) -> Verdict {
+    bench.maker.table(&mut bench.table);
+    let lent = bench.table.lent();
+    let random = &mut bench.maker.random;
+    // Every row of a short table, and some of a long one.
+    for n in 0..lent.count.min(8) {
+        bench.comparer.take_row(lent, n)?;
+    }
+    let within = random.below(lent.count.min(140) + 1);
+    for n in [within, lent.count, usize::MAX] {
+        bench.comparer.take_row(lent, n)?;
+    }
+    Ok(())
+}
+
+pub fn heights_and_corners(bench: &mut Bench) -> Verdict {
+    bench.maker.packet(&mut bench.packet);
+    let set = bench.maker.set();
+    bench.comparer.heights(&bench.packet, set)?;
+    let far = [0, 5, 1 << 62, 1 << 63, u64::MAX];
+    let k = bench.maker.random.pick(&far);
+    for k in [1, 2, 3, 4, k] {
+        bench.comparer.corner(&bench.packet, set, k)?;
+    }
+    Ok(())
+}
+
+pub fn listing(bench: &mut Bench) -> Verdict {
+    bench.maker.packet(&mut bench.packet);
+    let room = room(&mut bench.maker.random);
+    bench.comparer.list(&bench.packet, room)?;
+    bench.comparer.list(&bench.packet, longest)
+}
+
+/// The room that no listing needs more than, with which 18 would be told.
+fn longest(needed: usize) -> usize {
+    assert!(needed <= LONGEST_LISTING);
+    LONGEST_LISTING
+}
+
+/// The length of an output for the length needed: exactly that, one less, one more, others.
+fn room(random: &mut Random) -> impl FnOnce(usize) -> usize {
+    let choice = random.below(12);
+    let part = random.next();
+    move |needed| {
+        let length = match choice {
+            0 => 0,
+            1 => 1,
+            2 | 3 => needed - 1,
+            4 => (part % needed as u64) as usize,
+            5..=7 => needed,
+            8 => needed + 1,
+            _ => needed + 40,
+        };
+        length.min(MOST_OUT)
+    }
+}

@@ -1,0 +1,245 @@
+//! Seeded row tables for the writer: read from packets, changed in one place, or odd from the start.
+
+use crate::catalogue::{form, ALL, SMALLEST};
+use crate::make::Maker;
+use crate::twin::{Row, Twin, CARRIED, MARK, READING, TEXT};
+use crate::twin_write::Rows;
+use crate::wire::LAST_TAG;
+
+/// Rows for a writer, in buffers that are kept.
+#[derive(Default)]
+pub struct Table {
+    words: Vec<u64>,
+    count: usize,
+    buffer: Vec<u8>,
+    set: u128,
+}
+
+impl Table {
+    pub fn lent(&self) -> Rows<'_> {
+        Rows {
+            words: &self.words,
+            count: self.count,
+            buffer: &self.buffer,
+            set: self.set,
+        }
+    }
+}
+
+impl Maker {
+    /// Any table: right, changed in one place, or of odd rows.
+    pub fn table(&mut self, table: &mut Table) {
+        table.set = self.good_set();
+        match self.random.below(16) {
+            0 => self.odd_table(table),
+            1 => self.heavy_table(table),
+            2..=5 => self.table_of_a_packet(table),
+            6..=8 => {
+                self.table_of_a_packet(table);
+                self.rearrange(table);
+            }
+            9 => {
+                self.table_of_a_packet(table);
+                self.change_what_is_lent(table);
+            }
+            _ => {
+                self.table_of_a_packet(table);
+                self.change_a_word(table);
+            }
+        }
+    }
+
+    /// The rows of an accepted packet, the packet being the buffer.
+    fn table_of_a_packet(&mut self, table: &mut Table) {
+        self.good_packet(&mut table.buffer);
+        let read = Twin::TRUE.read(&table.buffer, table.set, None);
+        table.words.clear();
+        match read {
+            Ok(rows) => {
+                table.count = rows.len();
+                table.words.extend(rows.iter().flat_map(|row| row.words()));
+            }
+            Err(_) => self.odd_table(table),
+        }
+        if self.random.one_in(4) {
+            table.words.resize(512.max(table.words.len()), 0);
+        }
+    }
+
+    /// Rows dropped, doubled or moved.
+    fn rearrange(&mut self, table: &mut Table) {
+        if table.count == 0 {
+            return;
+        }
+        let n = self.random.below(table.count);
+        let to = self.random.below(table.count);
+        let row: Vec<u64> = table.words[4 * n..4 * n + 4].to_vec();
+        let keeps = self.random.below(3);
+        if keeps > 0 {
+            table.words.drain(4 * n..4 * n + 4);
+            table.count -= 1;
+        }
+        if keeps < 2 {
+            let to = to.min(table.count);
+            table.words.splice(4 * to..4 * to, row);
+            table.count += 1;
+        }
+    }
+
+    /// Another set, count, number of words or buffer than the rows are for.
+    fn change_what_is_lent(&mut self, table: &mut Table) {
+        match self.random.below(5) {
+            0 => table.set = self.set(),
+            1 => {
+                let words = self.random.below(table.words.len() + 1);
+                table.words.truncate(words);
+            }
+            2 => {
+                let bytes = self.random.below(table.buffer.len() + 1);
+                table.buffer.truncate(bytes);
+            }
+            _ => {
+                let counts = [0, 1, 128, 129, 130, 1 << 62, usize::MAX / 4, usize::MAX];
+                table.count = match self.random.below(3) {
+                    0 => table.count + 1,
+                    1 => table.count.saturating_sub(1),
+                    _ => self.random.pick(&counts),
+                };
+            }
+        }
+    }
+
+    fn change_a_word(&mut self, table: &mut Table) {
+        if table.count == 0 || table.words.len() < 4 * table.count {
+            return;
+        }
+        let n = self.random.below(table.count);
+        let row = Row::from_words(&table.words[4 * n..]);
+        let changed = &mut table.words[4 * n..4 * n + 4];
+        match self.random.below(4) {
+            0 => changed[0] = self.odd_tag(row.tag),
+            1 => changed[1] = self.random.pick(&[0, 1, 2, 3, 4, 5, 1 << 32, u64::MAX]),
+            2 => changed[2] = self.odd_code(&row),
+            _ => changed[3] = self.odd_value(&row, table.buffer.len()),
+        }
+        // The kind a changed code asks for, so that rules after the mark rule are reached.
+        let mark = form(changed[0]).and_then(|form| form.mark());
+        if changed[1] <= MARK && self.random.one_in(2) {
+            let is_mark = mark == Some(changed[2]);
+            changed[1] = if is_mark { MARK } else { READING };
+        }
+    }
+
+    fn odd_tag(&mut self, tag: u64) -> u64 {
+        let odd = [0, 1, 2, 65, 3, 34, 63, 130, LAST_TAG, LAST_TAG + 1, 1 << 63];
+        match self.random.below(4) {
+            0 => tag ^ 1 << self.random.below(64),
+            1 => tag + 128,
+            2 => self.unknown_tag(),
+            _ => self.random.pick(&odd),
+        }
+    }
+
+    fn odd_code(&mut self, row: &Row) -> u64 {
+        let bits = 8 * row.length.min(8) as u32;
+        let too_wide = 1u64.checked_shl(bits).unwrap_or(0);
+        let mark = too_wide / 2;
+        match self.random.below(10) {
+            0 => too_wide,
+            1 => too_wide.wrapping_sub(1),
+            2 => too_wide + 1,
+            3 => mark,
+            4 => mark.wrapping_sub(1),
+            5 => u64::MAX,
+            6 => self.random.next(),
+            7 => row.code | 1 << self.random.below(64),
+            _ => self.random.below(12) as u64,
+        }
+    }
+
+    /// Another place or length.
+    fn odd_value(&mut self, row: &Row, buffer: usize) -> u64 {
+        let lengths = [0, 1, 2, 4, 8, 127, 128, 129, 255, 256, 65_535];
+        let places = [0, 1, buffer, buffer + 1, (1 << 48) - 1];
+        let mut changed = *row;
+        match self.random.below(6) {
+            0 => changed.length = self.random.pick(&lengths),
+            1 => changed.place = self.random.pick(&places),
+            2 => changed.place = buffer.saturating_sub(row.length),
+            3 => changed.place = (buffer + 1).saturating_sub(row.length),
+            4 => {
+                changed.length = self.random.pick(&lengths);
+                changed.place = buffer.saturating_sub(changed.length);
+            }
+            _ => return self.random.next(),
+        }
+        changed.words()[3]
+    }
+
+    /// Rows whose values share the buffer, so that their packet has about the greatest length allowed.
+    fn heavy_table(&mut self, table: &mut Table) {
+        self.make_parts();
+        table.buffer.clone_from(&self.store);
+        table.buffer.resize(9_000, 0x5A);
+        let many = self.random.between(0, 3);
+        let rest = if many == 0 { 8_145 } else { 8_130 / (many + 1) };
+        let mut rows = vec![number_row(2, 8), number_row(65, 1)];
+        for _ in 0..=many {
+            let tag = self.random.pick(&[40, 127, 128, 16_384]);
+            let length = rest + self.random.below(20);
+            let place = self.random.below(table.buffer.len() - length + 1);
+            rows.push(Row {
+                kind: CARRIED,
+                place,
+                ..number_row(tag, length)
+            });
+        }
+        rows.push(number_row(1, 2));
+        if self.random.one_in(8) {
+            rows.swap_remove(0);
+        }
+        set_rows(table, &rows);
+    }
+
+    /// Rows that are not those of any packet.
+    fn odd_table(&mut self, table: &mut Table) {
+        table.set = self.random.pick(&[ALL, ALL, SMALLEST]);
+        let mut rows = Vec::new();
+        for n in 0..self.random.below(6) {
+            let tag = if n == 0 { 2 } else { self.odd_tag(64) };
+            let kind = self.random.pick(&[READING, MARK, TEXT, CARRIED, CARRIED]);
+            let length = form(tag).and_then(|form| form.bytes());
+            let row = Row {
+                kind: length.map_or(kind, |_| READING),
+                code: self.random.below(2) as u64,
+                place: self.random.below(table.buffer.len() + 1),
+                ..number_row(tag, length.unwrap_or(0))
+            };
+            rows.push(row);
+        }
+        if self.random.one_in(2) {
+            rows.push(number_row(65, 1));
+            rows.push(number_row(1, 2));
+        }
+        set_rows(table, &rows);
+        if self.random.one_in(8) {
+            table.words.fill_with(|| self.random.next());
+        }
+    }
+}
+
+fn number_row(tag: u64, length: usize) -> Row {
+    Row {
+        tag,
+        kind: READING,
+        code: 0,
+        place: 0,
+        length,
+    }
+}
+
+fn set_rows(table: &mut Table, rows: &[Row]) {
+    table.count = rows.len();
+    table.words.clear();
+    table.words.extend(rows.iter().flat_map(|row| row.words()));
+}

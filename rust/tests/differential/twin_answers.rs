@@ -1,0 +1,222 @@
+//! The twin's conversions, heights, corners and listing.
+
+use crate::catalogue::{form, Form, ALL, DEGREE_CELSIUS};
+use crate::twin::{refused, Altered, Refused, Row, Twin, CARRIED, MARK, TEXT};
+
+/// A scale: the value is `origin` + number × `range` / `steps`, exactly.
+#[derive(Clone, Copy)]
+pub struct Scale {
+    pub bits: u32,
+    pub signed: bool,
+    pub low: i64,
+    pub high: i64,
+    pub origin: i128,
+    pub range: i128,
+    pub steps: i128,
+}
+
+impl Scale {
+    pub fn of(tag: u64) -> Option<Scale> {
+        match form(tag)? {
+            Form::Unsigned { bytes, low, high } => Some(Scale {
+                bits: 8 * bytes as u32,
+                signed: false,
+                low,
+                high,
+                origin: i128::from(low),
+                range: i128::from(high - low),
+                steps: (1 << (8 * bytes)) - 1,
+            }),
+            Form::Signed { bytes, high } => Some(Scale {
+                bits: 8 * bytes as u32,
+                signed: true,
+                low: -high,
+                high,
+                origin: 0,
+                range: i128::from(high),
+                steps: (1 << (8 * bytes - 1)) - 1,
+            }),
+            Form::Celsius => Some(Scale {
+                bits: 8,
+                signed: true,
+                low: -128 * DEGREE_CELSIUS,
+                high: 127 * DEGREE_CELSIUS,
+                origin: 0,
+                range: i128::from(DEGREE_CELSIUS),
+                steps: 1,
+            }),
+            Form::Plain { .. } | Form::Text => None,
+        }
+    }
+
+    /// The number that a stored code is.
+    pub fn number(self, code: u64) -> i128 {
+        let negative = self.signed && code >> (self.bits - 1) == 1;
+        i128::from(code) - if negative { 1 << self.bits } else { 0 }
+    }
+}
+
+#[derive(Clone, Copy, PartialEq, Eq, Debug)]
+pub enum TwinHeight {
+    OverEllipsoid(i64),
+    OverSeaLevel(i64),
+    Missing,
+}
+
+#[derive(Clone, Copy, PartialEq, Eq, Debug)]
+pub enum TwinCorner {
+    At(i64, i64),
+    OffTheEarth,
+    Missing,
+}
+
+/// The nearest whole number to a fraction; a tie goes away from zero.
+fn nearest(numerator: i128, denominator: i128) -> i128 {
+    let below = numerator.div_euclid(denominator);
+    let to_below = numerator - below * denominator;
+    let to_above = denominator - to_below;
+    if to_below < to_above || (to_below == to_above && numerator < 0) {
+        below
+    } else {
+        below + 1
+    }
+}
+
+impl Twin {
+    pub fn to_house(self, tag: u64, code: u64) -> Result<i64, Refused> {
+        let form = form(tag).ok_or(refused(19, 0, tag))?;
+        let scale = Scale::of(tag).ok_or(refused(19, 0, tag))?;
+        if code >> scale.bits != 0 || self.mark(tag, form) == Some(code) {
+            return Err(refused(20, 0, tag));
+        }
+        let all_ones = scale.signed && self.is(Altered::SignedDividedByAllOnes);
+        let steps = scale.steps * if all_ones { 2 } else { 1 } + i128::from(all_ones);
+        let value = scale.origin + nearest(scale.number(code) * scale.range, steps);
+        Ok(value as i64)
+    }
+
+    pub fn to_code(self, tag: u64, value: i64) -> Result<u64, Refused> {
+        let scale = Scale::of(tag).ok_or(refused(19, 0, tag))?;
+        if value < scale.low || value > scale.high {
+            return Err(refused(21, 0, tag));
+        }
+        // Measured from the low end if unsigned and from zero if signed, so a tie goes away from it.
+        let numerator = (i128::from(value) - scale.origin) * scale.steps;
+        let mut number = nearest(numerator, scale.range);
+        let tie = 2 * (number * scale.range - numerator).abs() == scale.range;
+        if tie && self.is(Altered::TiesTowardsZero) {
+            number -= number.signum();
+        }
+        Ok(number.rem_euclid(1 << scale.bits) as u64)
+    }
+
+    pub fn sensor_height(self, packet: &[u8], set: u128) -> Result<TwinHeight, Refused> {
+        self.height(packet, set, 75, 15)
+    }
+
+    pub fn frame_centre_height(self, packet: &[u8], set: u128) -> Result<TwinHeight, Refused> {
+        self.height(packet, set, 78, 25)
+    }
+
+    fn height(
+        self,
+        packet: &[u8],
+        set: u128,
+        over_ellipsoid: u64,
+        over_sea_level: u64,
+    ) -> Result<TwinHeight, Refused> {
+        let rows = self.read(packet, set, None)?;
+        let ellipsoid = self.house(&rows, over_ellipsoid);
+        let sea_level = self.house(&rows, over_sea_level);
+        Ok(match (ellipsoid, sea_level) {
+            (Some(_), Some(Some(height))) if self.is(Altered::SeaLevelFirst) => {
+                TwinHeight::OverSeaLevel(height)
+            }
+            (Some(Some(height)), _) => TwinHeight::OverEllipsoid(height),
+            (None, Some(Some(height))) => TwinHeight::OverSeaLevel(height),
+            _ => TwinHeight::Missing,
+        })
+    }
+
+    /// A present row in house units; inside it, nothing for a mark.
+    fn house(self, rows: &[Row], tag: u64) -> Option<Option<i64>> {
+        let row = rows
+            .iter()
+            .find(|row| row.tag == tag && row.kind != CARRIED)?;
+        Some(self.to_house(row.tag, row.code).ok())
+    }
+
+    pub fn corner(self, packet: &[u8], set: u128, k: u64) -> Result<TwinCorner, Refused> {
+        let rows = self.read(packet, set, None)?;
+        if !(1..=4).contains(&k) {
+            return Ok(TwinCorner::Missing);
+        }
+        let full = [80 + 2 * k, 81 + 2 * k].map(|tag| self.house(&rows, tag));
+        let by_offsets = [23, 24, 24 + 2 * k, 25 + 2 * k].map(|tag| self.house(&rows, tag));
+        let full_is_a_mark = full.contains(&Some(None));
+        if full_is_a_mark && self.is(Altered::OneFullCornerRowDecides) {
+            return Ok(TwinCorner::OffTheEarth);
+        }
+        let decides = full.iter().all(Option::is_some)
+            && !(full_is_a_mark && self.is(Altered::OffsetsWhenAFullCornerIsAMark));
+        Ok(if decides {
+            corner_of(full, [Some(Some(0)); 2])
+        } else {
+            let [latitude, longitude, north, east] = by_offsets;
+            corner_of([latitude, longitude], [north, east])
+        })
+    }
+
+    /// The listing of a packet; it knows the whole catalogue.
+    pub fn listing(self, packet: &[u8]) -> Result<String, Refused> {
+        let rows = self.read(packet, ALL, None)?;
+        let mut listing = String::from("place\ttag\tkind\tvalue\n");
+        for row in &rows {
+            self.list_row(&mut listing, row, packet);
+        }
+        Ok(listing)
+    }
+
+    fn list_row(self, listing: &mut String, row: &Row, packet: &[u8]) {
+        let kind = match row.kind {
+            MARK => "mark",
+            TEXT => "text",
+            CARRIED => "carried",
+            _ => "number",
+        };
+        *listing += &format!("{}\t{}\t{}\t", row.place, row.tag, kind);
+        match row.kind {
+            MARK => listing.push('-'),
+            TEXT | CARRIED => push_hex(listing, &packet[row.place..row.place + row.length]),
+            _ => match self.to_house(row.tag, row.code) {
+                Ok(value) => *listing += &value.to_string(),
+                Err(_) => *listing += &row.code.to_string(),
+            },
+        }
+        listing.push('\n');
+    }
+}
+
+/// The sum of two places, each row of which is used.
+fn corner_of(place: [Option<Option<i64>>; 2], offset: [Option<Option<i64>>; 2]) -> TwinCorner {
+    let [Some(latitude), Some(longitude)] = place else {
+        return TwinCorner::Missing;
+    };
+    let [Some(north), Some(east)] = offset else {
+        return TwinCorner::Missing;
+    };
+    match (latitude, longitude, north, east) {
+        (Some(latitude), Some(longitude), Some(north), Some(east)) => {
+            TwinCorner::At(latitude + north, longitude + east)
+        }
+        _ => TwinCorner::OffTheEarth,
+    }
+}
+
+fn push_hex(listing: &mut String, bytes: &[u8]) {
+    for &byte in bytes {
+        for digit in [byte >> 4, byte & 15] {
+            listing.push(char::from(b"0123456789ABCDEF"[usize::from(digit)]));
+        }
+    }
+}

@@ -1,0 +1,161 @@
+//! The twin's writer, forwarder and taking out of a row.
+
+use crate::catalogue::Form;
+use crate::twin::{is_good, refused, Altered, Refused, Row, Twin, CARRIED, MARK, READING, TEXT};
+use crate::wire::{
+    checksum, length_size, put_length, put_number, put_tag, tag_size, KEY, LAST_TAG, MOST_BYTES,
+    MOST_ITEMS,
+};
+
+/// What a writer is lent besides its output.
+#[derive(Clone, Copy)]
+pub struct Rows<'a> {
+    pub words: &'a [u64],
+    pub count: usize,
+    pub buffer: &'a [u8],
+    pub set: u128,
+}
+
+impl Twin {
+    /// The packet of these rows, in an output that is long enough.
+    pub fn written(self, lent: Rows) -> Result<Vec<u8>, Refused> {
+        let rows = self.rows(lent)?;
+        match rows.iter().position(|row| !self.is_good_row(row, lent)) {
+            Some(n) => Err(bad_row(n, rows[n].tag)),
+            None => self.written_rows(&rows, lent),
+        }
+    }
+
+    /// A packet read and its rows written.
+    pub fn forwarded(self, packet: &[u8], set: u128) -> Result<Vec<u8>, Refused> {
+        let mut rows = self.read(packet, set, None)?;
+        if self.is(Altered::UnknownItemDropped) {
+            rows.retain(|row| row.kind != CARRIED);
+        }
+        let words: Vec<u64> = rows.iter().flat_map(|row| row.words()).collect();
+        self.written(Rows {
+            words: &words,
+            count: rows.len(),
+            buffer: packet,
+            set,
+        })
+    }
+
+    pub fn taken_row(self, lent: Rows, n: usize) -> Result<Row, Refused> {
+        let rows = self.rows(lent)?;
+        let row = *rows.get(n).ok_or(refused(17, n, 0))?;
+        if self.is_good_row(&row, lent) {
+            Ok(row)
+        } else {
+            Err(bad_row(n, row.tag))
+        }
+    }
+
+    /// The rows lent as words: refusals 1 and 16.
+    fn rows(self, lent: Rows) -> Result<Vec<Row>, Refused> {
+        if !is_good(lent.set) {
+            return Err(refused(1, 0, 0));
+        }
+        if lent.count > MOST_ITEMS || 4 * lent.count > lent.words.len() {
+            return Err(refused(16, 0, 0));
+        }
+        let rows = lent.words.chunks_exact(4).take(lent.count);
+        Ok(rows.map(Row::from_words).collect())
+    }
+
+    fn is_good_row(self, row: &Row, lent: Rows) -> bool {
+        let inside = row.code == 0 && row.place + row.length <= lent.buffer.len();
+        let tag_is_good = (1..=LAST_TAG).contains(&row.tag);
+        tag_is_good
+            && match self.known_form(lent.set, row.tag) {
+                None => row.kind == CARRIED && inside,
+                Some(Form::Text) => {
+                    let empty = self.is(Altered::EmptyTextIsABadRow) && row.length == 0;
+                    row.kind == TEXT && inside && !empty
+                }
+                Some(form) => self.is_good_number(row, form),
+            }
+    }
+
+    fn is_good_number(self, row: &Row, form: Form) -> bool {
+        let code_is_asked = row.tag != 1 || self.is(Altered::ChecksumRowsCodeAsked);
+        let too_wide = code_is_asked && row.length < 8 && row.code >> (8 * row.length) != 0;
+        let is_mark = self.mark(row.tag, form) == Some(row.code);
+        form.bytes() == Some(row.length)
+            && !too_wide
+            && row.kind == if is_mark { MARK } else { READING }
+    }
+
+    /// Rows that are not bad: size, then the packet's own rules.
+    fn written_rows(self, rows: &[Row], lent: Rows) -> Result<Vec<u8>, Refused> {
+        let items: usize = rows.iter().map(|row| self.item_size(row)).sum();
+        if KEY.len() + length_size(items) + items > MOST_BYTES {
+            return Err(refused(3, 0, 0));
+        }
+        match rows.first() {
+            None => return Err(refused(9, 0, 0)),
+            Some(first) if first.tag != 2 => return Err(refused(9, 0, first.tag)),
+            _ => {}
+        }
+        let last = rows.len() - 1;
+        // A row of tag 1 that is not bad has length 2.
+        if rows[last].tag != 1 {
+            return Err(refused(10, last, rows[last].tag));
+        }
+        let known = (0..rows.len()).find_map(|n| self.known_row(rows, n, lent.set));
+        if let Some(refusal) = known {
+            return Err(refusal);
+        }
+        if rows.iter().all(|row| row.tag != 65) && !self.is(Altered::Item65NotAsked) {
+            return Err(refused(15, 0, 0));
+        }
+        Ok(self.bytes(rows, items, lent.buffer))
+    }
+
+    /// Refusals 12, 13 and 14 of one row.
+    fn known_row(self, rows: &[Row], n: usize, set: u128) -> Option<Refused> {
+        let row = &rows[n];
+        let form = self.known_form(set, row.tag)?;
+        // The writer works the checksum out afresh, so the code of its row is outside no codes.
+        let outside = row.tag != 1 && self.is_outside_its_codes(row.tag, form, row.code);
+        let wrong_length = form == Form::Text && !(1..=127).contains(&row.length);
+        let second = rows[..n].iter().any(|earlier| earlier.tag == row.tag);
+        let judgements = [(wrong_length, 12), (second, 13), (outside, 14)];
+        let (_, number) = judgements.into_iter().find(|&(given, _)| given)?;
+        Some(refused(number, n, row.tag))
+    }
+
+    fn item_size(self, row: &Row) -> usize {
+        tag_size(row.tag) + length_size(row.length) + row.length
+    }
+
+    fn bytes(self, rows: &[Row], items: usize, buffer: &[u8]) -> Vec<u8> {
+        let mut packet = Vec::with_capacity(items + 21);
+        packet.extend_from_slice(&KEY);
+        put_length(&mut packet, items, 0);
+        for row in rows {
+            put_tag(&mut packet, row.tag);
+            put_length(
+                &mut packet,
+                row.length,
+                usize::from(self.is(Altered::LongFormKept)),
+            );
+            match row.kind {
+                TEXT | CARRIED => {
+                    packet.extend_from_slice(&buffer[row.place..row.place + row.length]);
+                }
+                _ if row.tag == 1 => {
+                    let sum = checksum(&packet);
+                    put_number(&mut packet, sum, 2);
+                }
+                _ => put_number(&mut packet, row.code, row.length),
+            }
+        }
+        packet
+    }
+}
+
+fn bad_row(n: usize, tag: u64) -> Refused {
+    let named = (1..=LAST_TAG).contains(&tag);
+    refused(17, n, if named { tag } else { 0 })
+}
