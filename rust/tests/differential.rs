@@ -35,8 +35,9 @@ mod wire;
 #[path = "differential/worked.rs"]
 mod worked;
 
-use bench::{report, run, Bench, Law};
-use conversions::{house_law, scaled_tags};
+use bench::{must_hold, report, run, Bench, Law};
+use compare::Comparer;
+use conversions::{code_agrees, edge_codes, edge_values, scaled, ties, value_agrees};
 use twin::{Twin, ALTERATIONS};
 use twin_answers::Scale;
 
@@ -45,49 +46,49 @@ const LAWS: [Law; 7] = [
     Law {
         number: 1,
         name: "reader",
-        share: 250_000,
+        share: 400_000,
         refusals: &[1, 2, 3, 4, 5, 6, 7, 8, 9, 10, 11, 12, 13, 14, 15],
         case: laws::reader,
     },
     Law {
         number: 2,
         name: "forwarder",
-        share: 110_000,
+        share: 180_000,
         refusals: &[1, 3, 4, 5, 6, 7, 8, 9, 10, 11, 12, 13, 14, 15, 18],
         case: laws::forwarder,
     },
     Law {
         number: 3,
         name: "rows taken out",
-        share: 150_000,
+        share: 300_000,
         refusals: &[1, 16, 17],
         case: laws::rows_taken_out,
     },
     Law {
         number: 4,
         name: "writer",
-        share: 150_000,
+        share: 300_000,
         refusals: &[1, 3, 9, 10, 12, 13, 14, 15, 16, 17, 18],
         case: laws::writer,
     },
     Law {
         number: 5,
         name: "heights and corners",
-        share: 150_000,
+        share: 250_000,
         refusals: &[1, 3, 4, 5, 6, 7, 8, 9, 10, 11, 12, 13, 14, 15],
         case: laws::heights_and_corners,
     },
     Law {
         number: 6,
         name: "listing",
-        share: 40_000,
+        share: 50_000,
         refusals: &[3, 4, 5, 6, 7, 8, 9, 10, 11, 12, 13, 14, 15, 18],
         case: laws::listing,
     },
     Law {
         number: 7,
         name: "conversions",
-        share: 200_000,
+        share: 520_000,
         refusals: &[19, 20, 21],
         case: conversions::conversions,
     },
@@ -97,15 +98,16 @@ const LAWS: [Law; 7] = [
 const WRITTEN_READS_BACK: Law = Law {
     number: 8,
     name: "written reads back",
-    share: 30_000,
+    share: 60_000,
     refusals: &[],
     case: demands::written_reads_back,
 };
 const FULLER_AND_POORER: Law = Law {
     number: 9,
     name: "fuller and poorer",
-    share: 50_000,
-    refusals: &[],
+    share: 60_000,
+    // Those that only the fuller receiver gives.
+    refusals: &[12, 13, 14],
     case: demands::fuller_and_poorer,
 };
 
@@ -179,22 +181,64 @@ fn a_poorer_receiver_agrees_with_a_fuller_one() {
 
 #[test]
 fn every_code_of_one_and_two_bytes() {
-    let mut bench = Bench::new(Twin::TRUE);
-    for tag in scaled_tags() {
-        let scale = Scale::of(tag).expect("a scaled tag has a scale");
-        if scale.bits > 16 {
-            continue;
-        }
+    let mut comparer = Comparer::new(Twin::TRUE);
+    for (tag, scale) in scaled(16) {
         for code in 0..1 << scale.bits {
-            let verdict = bench.comparer.to_house(tag, code);
-            let verdict = verdict.and_then(|()| house_law(tag, scale, code));
-            if let Err(difference) = verdict {
-                panic!("{difference}");
+            must_hold(code_agrees(&mut comparer, tag, scale, code));
+        }
+    }
+    report("every code of one and two bytes", &comparer.tally);
+    assert_eq!(comparer.tally.cases, 25 * 65_536 + 6 * 256);
+}
+
+#[test]
+fn every_value_of_one_byte() {
+    let mut comparer = Comparer::new(Twin::TRUE);
+    for (tag, scale) in scaled(8) {
+        for value in scale.low - 2..=scale.high + 2 {
+            must_hold(value_agrees(&mut comparer, tag, scale, value));
+        }
+    }
+    report("every value of one byte", &comparer.tally);
+}
+
+#[test]
+fn every_edge() {
+    let mut comparer = Comparer::new(Twin::TRUE);
+    for (tag, scale) in scaled(32) {
+        for code in edge_codes(scale) {
+            must_hold(code_agrees(&mut comparer, tag, scale, code));
+        }
+        for value in edge_values(scale) {
+            must_hold(value_agrees(&mut comparer, tag, scale, value));
+        }
+    }
+    report("every edge", &comparer.tally);
+}
+
+#[test]
+fn every_tag_without_scale() {
+    let mut comparer = Comparer::new(Twin::TRUE);
+    let small = (0..20_000).chain(2_097_000..2_097_200);
+    for tag in small.filter(|&tag| Scale::of(tag).is_none()) {
+        must_hold(comparer.to_house(tag, 1));
+        must_hold(comparer.to_code(tag, 1));
+    }
+    report("every tag without scale", &comparer.tally);
+    assert_eq!(comparer.tally.accepted, 0);
+}
+
+#[test]
+fn every_tie() {
+    let mut comparer = Comparer::new(Twin::TRUE);
+    for (tag, scale) in scaled(32) {
+        for tie in ties(scale) {
+            for value in tie - 1..=tie + 1 {
+                must_hold(value_agrees(&mut comparer, tag, scale, value));
             }
         }
     }
-    report("every short code", &bench.comparer.tally);
-    assert_eq!(bench.comparer.tally.cases, 25 * 65_536 + 6 * 256);
+    report("every tie", &comparer.tally);
 }
 
 /// A twin with one rule told wrongly differs from the product within few cases.

@@ -1,6 +1,6 @@
 //! Runs the cases of a law and counts what came.
 
-use crate::compare::{Comparer, Tally, Verdict};
+use crate::compare::{holds, Comparer, Tally, Verdict};
 use crate::make::Maker;
 use crate::random::{setting, Random};
 use crate::tables::Table;
@@ -20,6 +20,8 @@ pub struct Bench {
     pub comparer: Comparer,
     pub packet: Vec<u8>,
     pub table: Table,
+    packet_as_made: Vec<u8>,
+    table_as_made: Table,
 }
 
 impl Bench {
@@ -29,14 +31,33 @@ impl Bench {
             comparer: Comparer::new(twin),
             packet: Vec::new(),
             table: Table::default(),
+            packet_as_made: Vec::new(),
+            table_as_made: Table::default(),
         }
+    }
+
+    pub fn make_packet(&mut self) {
+        self.maker.packet(&mut self.packet);
+        self.packet_as_made.clone_from(&self.packet);
+    }
+
+    pub fn make_table(&mut self) {
+        self.maker.table(&mut self.table);
+        self.table_as_made.clone_from(&self.table);
+    }
+
+    /// What is lent to be read alone stays as it was.
+    fn inputs_stay(&self) -> Verdict {
+        let stay = self.packet == self.packet_as_made && self.table == self.table_as_made;
+        holds(stay, || String::from("an input has changed"))
     }
 
     /// One case; a difference is told with all that is needed to see it again.
     pub fn try_case(&mut self, law: &Law, case: u64) -> Verdict {
         let seed = seed();
         self.maker.random = Random::of_case(seed, law.number, case);
-        (law.case)(self).map_err(|difference| {
+        let verdict = (law.case)(self).and_then(|()| self.inputs_stay());
+        verdict.map_err(|difference| {
             format!(
                 "{} differs in case {case} of seed {seed}: {difference}",
                 law.name
@@ -62,14 +83,18 @@ pub fn run(law: &Law) {
     let mut bench = Bench::new(Twin::TRUE);
     let mut case = 0;
     while bench.comparer.tally.cases < wanted {
-        if let Err(difference) = bench.try_case(law, case) {
-            panic!("{difference}");
-        }
+        must_hold(bench.try_case(law, case));
         case += 1;
     }
     report(law.name, &bench.comparer.tally);
     if wanted >= law.share {
         all_came(law, &bench.comparer.tally);
+    }
+}
+
+pub fn must_hold(verdict: Verdict) {
+    if let Err(difference) = verdict {
+        panic!("{difference}");
     }
 }
 

@@ -12,6 +12,15 @@ use crate::twin_write::Rows;
 /// Nothing, or how product and twin differ.
 pub type Verdict = Result<(), String>;
 
+/// A law that holds, or else what it does not hold of.
+pub fn holds(law: bool, what: impl FnOnce() -> String) -> Verdict {
+    if law {
+        Ok(())
+    } else {
+        Err(what())
+    }
+}
+
 /// How many comparisons there were, how many were accepted, and how often each refusal came.
 #[derive(Clone, Copy, Default)]
 pub struct Tally {
@@ -181,10 +190,7 @@ impl Comparer {
         bytes: Result<Vec<u8>, Refused>,
         length: usize,
     ) -> Verdict {
-        let bytes = match bytes {
-            Ok(bytes) if bytes.len() > length => Err(refused(18, 0, 0)),
-            bytes => bytes,
-        };
+        let bytes = bytes.and_then(|bytes| self.twin.in_room(bytes, length));
         let written = bytes.as_ref().map_or(&[][..], |bytes| &bytes[..]);
         let memory_is_right = self.out.holds_only(written);
         let twin = bytes.map(|bytes| bytes.len());
@@ -204,17 +210,14 @@ impl Comparer {
             Ok(_) => self.tally.accepted += 1,
             Err(refusal) => self.tally.refusals[refusal.number as usize] += 1,
         }
-        if product == twin && rest_is_right {
-            return Ok(());
-        }
-        let memory = if rest_is_right {
-            ""
-        } else {
-            "; rows or lent memory differ"
-        };
-        Err(format!(
-            "{asked}: product {product:?}, twin {twin:?}{memory}"
-        ))
+        holds(product == twin && rest_is_right, || {
+            let rest = if rest_is_right {
+                ""
+            } else {
+                "; rows or lent memory differ"
+            };
+            format!("{asked}: product {product:?}, twin {twin:?}{rest}")
+        })
     }
 }
 

@@ -2,7 +2,7 @@
 
 use crate::bench::Bench;
 use crate::catalogue::{form, tags_of, ALL};
-use crate::compare::Verdict;
+use crate::compare::{holds, Comparer, Verdict};
 use crate::make::Maker;
 use crate::twin_answers::Scale;
 
@@ -26,14 +26,82 @@ const NO_SCALE: [u64; 16] = [
     u64::MAX,
 ];
 
-pub fn scaled_tags() -> impl Iterator<Item = u64> {
-    tags_of(ALL).filter(|&tag| Scale::of(tag).is_some())
+/// The scaled items of so many bits at most.
+pub fn scaled(most_bits: u32) -> impl Iterator<Item = (u64, Scale)> {
+    let scaled = tags_of(ALL).filter_map(|tag| Some((tag, Scale::of(tag)?)));
+    scaled.filter(move |(_, scale)| scale.bits <= most_bits)
+}
+
+/// A code in product, twin and law.
+pub fn code_agrees(comparer: &mut Comparer, tag: u64, scale: Scale, code: u64) -> Verdict {
+    comparer.to_house(tag, code)?;
+    house_law(tag, scale, code)
+}
+
+/// A value in product, twin and law.
+pub fn value_agrees(comparer: &mut Comparer, tag: u64, scale: Scale, value: i64) -> Verdict {
+    comparer.to_code(tag, value)?;
+    code_law(tag, scale, value)
+}
+
+/// Codes at the edges of an item's width, and too wide ones.
+pub fn edge_codes(scale: Scale) -> [u64; 12] {
+    let too_wide = 1 << scale.bits;
+    let mark = too_wide / 2;
+    [
+        0,
+        1,
+        mark - 1,
+        mark,
+        mark + 1,
+        too_wide - 2,
+        too_wide - 1,
+        too_wide,
+        too_wide + 1,
+        too_wide + mark,
+        mark.wrapping_neg(),
+        u64::MAX,
+    ]
+}
+
+/// Values at the edges of an item's range, and outside.
+pub fn edge_values(scale: Scale) -> [i64; 11] {
+    let Scale { low, high, .. } = scale;
+    [
+        i64::MIN,
+        low - 1,
+        low,
+        low + 1,
+        -1,
+        0,
+        1,
+        high - 1,
+        high,
+        high + 1,
+        i64::MAX,
+    ]
+}
+
+/// The values half-way between two codes, both signs of signed ones.
+pub fn ties(scale: Scale) -> impl Iterator<Item = i64> {
+    let (mut divisor, mut rest) = (scale.range, scale.steps);
+    while rest != 0 {
+        (divisor, rest) = (rest, divisor % rest);
+    }
+    // With all common divisors out of range / steps, ties are the odd multiples of half its range.
+    let half = scale.range / divisor / 2;
+    let signs = if scale.signed { &[1, -1][..] } else { &[1] };
+    let odd = move |j: i128| signs.iter().map(move |sign| sign * (2 * j + 1) * half);
+    let ties = (0..).flat_map(odd).map(move |tie| scale.origin + tie);
+    let far = i128::from(scale.high.max(-scale.low));
+    ties.take_while(move |tie| tie.abs() <= far)
+        .map(|tie| tie as i64)
 }
 
 /// One tag in each direction, over edges and samples.
 pub fn conversions(bench: &mut Bench) -> Verdict {
     let maker = &mut bench.maker;
-    let tag = maker.random.below(128) as u64;
+    let tag = maker.catalogue_tag();
     let Some(scale) = Scale::of(tag) else {
         let tag = maker.random.pick(&NO_SCALE);
         let any = maker.random.next();
@@ -43,12 +111,10 @@ pub fn conversions(bench: &mut Bench) -> Verdict {
         return bench.comparer.to_code(tag, 0);
     };
     for _ in 0..4 {
-        let code = maker.any_code(scale);
-        bench.comparer.to_house(tag, code)?;
-        house_law(tag, scale, code)?;
-        let value = maker.any_value(scale);
-        bench.comparer.to_code(tag, value)?;
-        code_law(tag, scale, value)?;
+        let any_code = maker.any_code(scale);
+        code_agrees(&mut bench.comparer, tag, scale, any_code)?;
+        let any_value = maker.any_value(scale);
+        value_agrees(&mut bench.comparer, tag, scale, any_value)?;
     }
     Ok(())
 }
@@ -89,7 +155,7 @@ impl Maker {
 }
 
 /// The value answered is nearer than half a unit, since a tie never occurs.
-pub fn house_law(tag: u64, scale: Scale, code: u64) -> Verdict {
+fn house_law(tag: u64, scale: Scale, code: u64) -> Verdict {
     let Ok(value) = oysterknoll::to_house(tag, code) else {
         return refused_rightly(is_code(tag, scale, code), || {
             format!("code {code} of {tag}")
@@ -109,7 +175,7 @@ pub fn house_law(tag: u64, scale: Scale, code: u64) -> Verdict {
 }
 
 /// The code answered is nearest; at a tie it is the one away from the low end, or from zero if signed.
-pub fn code_law(tag: u64, scale: Scale, value: i64) -> Verdict {
+fn code_law(tag: u64, scale: Scale, value: i64) -> Verdict {
     let is_inside = (scale.low..=scale.high).contains(&value);
     let Ok(code) = oysterknoll::to_code(tag, value) else {
         return refused_rightly(is_inside, || format!("value {value} of {tag}"));
@@ -136,12 +202,4 @@ fn is_code(tag: u64, scale: Scale, code: u64) -> bool {
 
 fn refused_rightly(acceptable: bool, what: impl FnOnce() -> String) -> Verdict {
     holds(!acceptable, || what() + " refused")
-}
-
-fn holds(law: bool, what: impl FnOnce() -> String) -> Verdict {
-    if law {
-        Ok(())
-    } else {
-        Err(what())
-    }
 }

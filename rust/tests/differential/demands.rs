@@ -4,7 +4,7 @@ use oysterknoll::{Refusal, LONGEST_PACKET, TABLE_WORDS};
 
 use crate::bench::Bench;
 use crate::catalogue::knows;
-use crate::compare::{knowing, Verdict};
+use crate::compare::{holds, knowing, Verdict};
 use crate::twin::{Row, CARRIED};
 
 /// What the product read: the rows' words beside the packet they point into.
@@ -53,19 +53,9 @@ impl Read<'_> {
     }
 }
 
-fn holds(law: bool, bench: &Bench, what: &str, sets: &[u128]) -> Verdict {
-    if law {
-        return Ok(());
-    }
-    Err(format!(
-        "{what}: packet {:02X?}, sets {sets:X?}",
-        bench.packet
-    ))
-}
-
 /// Demand 2: the packet written from a table reads back as that table, with the same knowing set.
 pub fn written_reads_back(bench: &mut Bench) -> Verdict {
-    bench.maker.table(&mut bench.table);
+    bench.make_table();
     let lent = bench.table.lent();
     let mut out = vec![0; LONGEST_PACKET];
     let set = knowing(lent.set);
@@ -81,40 +71,37 @@ pub fn written_reads_back(bench: &mut Bench) -> Verdict {
     };
     let back = read(&out[..length], lent.set);
     let same = back.is_ok_and(|back| back.is_same_table(&table));
-    bench.packet.clone_from(&out);
-    let set = lent.set;
-    holds(same, bench, "not read back as it was written", &[set])
+    holds(same, || {
+        let (words, set) = (&table.words, lent.set);
+        format!("not read back as written: {words:X?}, set {set:X}")
+    })
 }
 
 /// Demand 3 of a fuller receiver and a poorer one.
 pub fn fuller_and_poorer(bench: &mut Bench) -> Verdict {
-    bench.maker.packet(&mut bench.packet);
+    bench.make_packet();
     let fuller = bench.maker.good_set();
     let poorer = fuller & bench.maker.good_set();
-    let sets = [fuller, poorer];
-    let by_fuller = read(&bench.packet, fuller);
-    let by_poorer = read(&bench.packet, poorer);
-    bench.comparer.tally.cases += 1;
-    match (&by_fuller, &by_poorer) {
-        (Ok(full), Ok(poor)) => {
-            let same = poorer_rows(full, poor, poorer);
-            holds(same, bench, "a poorer receiver reads other rows", &sets)?;
-        }
-        (Ok(_), Err(_)) => holds(false, bench, "only the poorer refuses", &sets)?,
-        (Err(refusal), Ok(_)) => {
-            let unknown = refusal.tag != 0 && !knows(poorer, refusal.tag);
-            holds(
-                unknown,
-                bench,
-                "the fuller names a tag known to both",
-                &sets,
-            )?;
-        }
+    let packet = &bench.packet;
+    let by_fuller = read(packet, fuller);
+    let by_poorer = read(packet, poorer);
+    let tally = &mut bench.comparer.tally;
+    tally.cases += 1;
+    let (same, law) = match (&by_fuller, &by_poorer) {
         (Err(_), Err(_)) => return Ok(()),
-    }
-    bench.comparer.tally.accepted += 1;
-    let same = forwarded_is_same(&bench.packet, by_fuller, sets);
-    holds(same, bench, "forwarded by the poorer, not the same", &sets)
+        (Ok(_), Err(_)) => (false, "only the poorer refuses"),
+        (Ok(full), Ok(poor)) => (poorer_rows(full, poor, poorer), "its rows are others"),
+        (Err(refusal), Ok(_)) => {
+            tally.refusals[refusal.number() as usize] += 1;
+            let unknown = refusal.tag != 0 && !knows(poorer, refusal.tag);
+            (unknown, "the fuller refuses a tag known to both")
+        }
+    };
+    tally.accepted += 1;
+    let told = |law| format!("{law}: packet {packet:02X?}, sets {fuller:X} and {poorer:X}");
+    holds(same, || told(law))?;
+    let same = forwarded_is_same(packet, by_fuller, fuller, poorer);
+    holds(same, || told("forwarded by the poorer it is another"))
 }
 
 /// The fuller receiver's rows where the poorer one knows the tag, else carried in the same place.
@@ -134,8 +121,12 @@ fn poorer_rows(full: &Read, poor: &Read, poorer: u128) -> bool {
 }
 
 /// The packet sent on by the poorer receiver is to the fuller one what the original is.
-fn forwarded_is_same(packet: &[u8], original: Result<Read, Refusal>, sets: [u128; 2]) -> bool {
-    let [fuller, poorer] = sets;
+fn forwarded_is_same(
+    packet: &[u8],
+    original: Result<Read, Refusal>,
+    fuller: u128,
+    poorer: u128,
+) -> bool {
     let mut out = vec![0; packet.len()];
     let Ok(length) = oysterknoll::forward(packet, knowing(poorer), &mut out) else {
         return false;

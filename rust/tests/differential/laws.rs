@@ -10,7 +10,7 @@ use crate::random::Random;
 const TABLE_WORDS: [usize; 12] = [0, 1, 511, 512, 512, 512, 512, 513, 513, 520, 520, 544];
 
 pub fn reader(bench: &mut Bench) -> Verdict {
-    bench.maker.packet(&mut bench.packet);
+    bench.make_packet();
     for _ in 0..2 {
         let set = bench.maker.set();
         let table_words = bench.maker.random.pick(&TABLE_WORDS);
@@ -21,7 +21,7 @@ pub fn reader(bench: &mut Bench) -> Verdict {
 }
 
 pub fn forwarder(bench: &mut Bench) -> Verdict {
-    bench.maker.packet(&mut bench.packet);
+    bench.make_packet();
     let set = bench.maker.set();
     for _ in 0..2 {
         let room = room(&mut bench.maker.random);
@@ -31,7 +31,7 @@ pub fn forwarder(bench: &mut Bench) -> Verdict {
 }
 
 pub fn writer(bench: &mut Bench) -> Verdict {
-    bench.maker.table(&mut bench.table);
+    bench.make_table();
     for _ in 0..2 {
         let room = room(&mut bench.maker.random);
         bench.comparer.write(bench.table.lent(), room)?;
@@ -40,7 +40,7 @@ pub fn writer(bench: &mut Bench) -> Verdict {
 }
 
 pub fn rows_taken_out(bench: &mut Bench) -> Verdict {
-    bench.maker.table(&mut bench.table);
+    bench.make_table();
     let lent = bench.table.lent();
     let random = &mut bench.maker.random;
     // Every row of a short table, and some of a long one.
@@ -55,7 +55,7 @@ pub fn rows_taken_out(bench: &mut Bench) -> Verdict {
 }
 
 pub fn heights_and_corners(bench: &mut Bench) -> Verdict {
-    bench.maker.packet(&mut bench.packet);
+    bench.make_packet();
     let set = bench.maker.set();
     bench.comparer.heights(&bench.packet, set)?;
     let far = [0, 5, 1 << 62, 1 << 63, u64::MAX];
@@ -67,7 +67,7 @@ pub fn heights_and_corners(bench: &mut Bench) -> Verdict {
 }
 
 pub fn listing(bench: &mut Bench) -> Verdict {
-    bench.maker.packet(&mut bench.packet);
+    bench.make_packet();
     let room = room(&mut bench.maker.random);
     bench.comparer.list(&bench.packet, room)?;
     bench.comparer.list(&bench.packet, longest)

@@ -62,10 +62,11 @@ impl Maker {
         self.store.clear();
         self.add(2);
         match self.random.below(64) {
-            0 => self.add_others(116, 128),
+            0 => self.add_others(122, 127),
             1 => self.add_large(),
             2 => self.add_to_the_limit(),
-            3..=6 => self.add_others(9, 40),
+            3 => self.add_catalogue(),
+            4..=6 => self.add_others(9, 40),
             7..=18 => self.add_places(),
             _ => self.add_others(0, 8),
         }
@@ -88,6 +89,15 @@ impl Maker {
             if tag < 128 {
                 used |= 1 << tag;
             }
+            self.add(tag);
+        }
+    }
+
+    /// Every item of the catalogue, from anywhere in it.
+    fn add_catalogue(&mut self) {
+        let first = self.random.below(self.catalogue.len());
+        for n in 0..self.catalogue.len() {
+            let tag = self.catalogue[(first + n) % self.catalogue.len()];
             self.add(tag);
         }
     }
@@ -123,12 +133,17 @@ impl Maker {
         if self.random.one_in(3) {
             return self.unknown_tag();
         }
-        let tag = self.random.pick(&self.catalogue);
+        let tag = self.catalogue_tag();
         if knows(used, tag) {
             self.unknown_tag()
         } else {
             tag
         }
+    }
+
+    /// A tag of the catalogue besides those of the smallest set.
+    pub fn catalogue_tag(&mut self) -> u64 {
+        self.random.pick(&self.catalogue)
     }
 
     pub fn unknown_tag(&mut self) -> u64 {
@@ -259,7 +274,7 @@ impl Maker {
             1 => ALL,
             2..=4 => SMALLEST | (ALL & any),
             _ => {
-                let removed = [0; 3].map(|_: u64| 1 << self.random.pick(&self.catalogue));
+                let removed = [0; 3].map(|_: u64| 1 << self.catalogue_tag());
                 ALL & !removed.iter().fold(0, |all: u128, one: &u128| all | one)
             }
         }

@@ -7,7 +7,7 @@ use crate::twin_write::Rows;
 use crate::wire::LAST_TAG;
 
 /// Rows for a writer, in buffers that are kept.
-#[derive(Default)]
+#[derive(Clone, Default, PartialEq)]
 pub struct Table {
     words: Vec<u64>,
     count: usize,
@@ -41,6 +41,10 @@ impl Maker {
             9 => {
                 self.table_of_a_packet(table);
                 self.change_what_is_lent(table);
+            }
+            10 => {
+                self.table_of_a_packet(table);
+                self.change_a_judged_value(table);
             }
             _ => {
                 self.table_of_a_packet(table);
@@ -91,7 +95,9 @@ impl Maker {
         match self.random.below(5) {
             0 => table.set = self.set(),
             1 => {
-                let words = self.random.below(table.words.len() + 1);
+                let fewer = self.random.below(table.words.len() + 1);
+                let one_less = (4 * table.count).saturating_sub(1);
+                let words = self.random.pick(&[fewer, one_less, 4 * table.count]);
                 table.words.truncate(words);
             }
             2 => {
@@ -127,6 +133,23 @@ impl Maker {
         if changed[1] <= MARK && self.random.one_in(2) {
             let is_mark = mark == Some(changed[2]);
             changed[1] = if is_mark { MARK } else { READING };
+        }
+    }
+
+    /// A text's length, or a number's code, changed so that 12 or 14 may come.
+    fn change_a_judged_value(&mut self, table: &mut Table) {
+        let lengths = [0, 1, 127, 128, 129, 200];
+        let length = self.random.pick(&lengths);
+        let code = self.random.below(11) as u64;
+        for words in table.words.chunks_exact_mut(4) {
+            let mut row = Row::from_words(words);
+            if row.kind == TEXT {
+                row.length = length;
+                row.place = row.place.min(table.buffer.len().saturating_sub(length));
+            } else if row.kind == READING && row.length == 1 {
+                row.code = code;
+            }
+            words.copy_from_slice(&row.words());
         }
     }
 

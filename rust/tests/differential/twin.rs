@@ -29,10 +29,14 @@ pub enum Altered {
     ChecksumRowsCodeAsked,
     EmptyTextIsABadRow,
     RestOfTheTableStays,
+    PlaceOfNumbersAsked,
+    BadRowsTagAlwaysNamed,
+    ExactRoomIsTooShort,
+    MarkListedAsANumber,
 }
 
 /// Every alteration.
-pub const ALTERATIONS: [Altered; 21] = [
+pub const ALTERATIONS: [Altered; 25] = [
     Altered::MarkOfOffsetsIsANumber,
     Altered::LowestCelsiusIsAMark,
     Altered::SignedDividedByAllOnes,
@@ -54,6 +58,10 @@ pub const ALTERATIONS: [Altered; 21] = [
     Altered::ChecksumRowsCodeAsked,
     Altered::EmptyTextIsABadRow,
     Altered::RestOfTheTableStays,
+    Altered::PlaceOfNumbersAsked,
+    Altered::BadRowsTagAlwaysNamed,
+    Altered::ExactRoomIsTooShort,
+    Altered::MarkListedAsANumber,
 ];
 
 /// The twin, with at most one rule told wrongly.
@@ -241,6 +249,7 @@ impl<'a> Case<'a> {
         let most = MOST_ITEMS + usize::from(self.twin.is(Altered::OneItemMore));
         while start < self.packet.len() {
             if self.items.len() == most {
+                // The next item's tag is not read yet, so there is none to give.
                 return Err(refused(6, start, 0));
             }
             let item = self.item(start)?;
@@ -267,6 +276,7 @@ impl<'a> Case<'a> {
         })
     }
 
+    /// The tag alone is asked here; a wrong length is left to 12. With no item there is no tag.
     fn first_item(&self) -> Option<Refused> {
         match self.items.first() {
             None => Some(refused(9, self.packet.len(), 0)),
@@ -280,6 +290,7 @@ impl<'a> Case<'a> {
         (last.tag != 1 || !right_length).then(|| refused(10, last.start, last.tag))
     }
 
+    /// Summed is all before the value, which is the same where its length has a long form.
     fn checksum(&self) -> Option<Refused> {
         let place = self.items.last()?.place;
         let summed = if self.twin.is(Altered::ChecksumToTheEnd) {
@@ -304,7 +315,7 @@ impl<'a> Case<'a> {
         })
     }
 
-    /// The number of the refusal of one known item.
+    /// The number of the refusal of one known item: 12, 13 and 14 are asked item by item.
     fn known_item(&self, item: &Item, form: Form, second: bool) -> Option<u64> {
         let right_length = match form.bytes() {
             Some(bytes) => item.length == bytes,

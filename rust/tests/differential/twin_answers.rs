@@ -179,7 +179,7 @@ impl Twin {
 
     fn list_row(self, listing: &mut String, row: &Row, packet: &[u8]) {
         let kind = match row.kind {
-            MARK => "mark",
+            MARK if !self.is(Altered::MarkListedAsANumber) => "mark",
             TEXT => "text",
             CARRIED => "carried",
             _ => "number",

@@ -21,8 +21,18 @@ impl Twin {
     pub fn written(self, lent: Rows) -> Result<Vec<u8>, Refused> {
         let rows = self.rows(lent)?;
         match rows.iter().position(|row| !self.is_good_row(row, lent)) {
-            Some(n) => Err(bad_row(n, rows[n].tag)),
+            Some(n) => Err(self.bad_row(n, rows[n].tag)),
             None => self.written_rows(&rows, lent),
+        }
+    }
+
+    /// The bytes that an answer puts into an output of this length.
+    pub fn in_room(self, bytes: Vec<u8>, length: usize) -> Result<Vec<u8>, Refused> {
+        let asked = bytes.len() + usize::from(self.is(Altered::ExactRoomIsTooShort));
+        if asked > length {
+            Err(refused(18, 0, 0))
+        } else {
+            Ok(bytes)
         }
     }
 
@@ -41,13 +51,14 @@ impl Twin {
         })
     }
 
+    /// One row; whether the others are bad is not asked. A number past the count is the place of its 17.
     pub fn taken_row(self, lent: Rows, n: usize) -> Result<Row, Refused> {
         let rows = self.rows(lent)?;
         let row = *rows.get(n).ok_or(refused(17, n, 0))?;
         if self.is_good_row(&row, lent) {
             Ok(row)
         } else {
-            Err(bad_row(n, row.tag))
+            Err(self.bad_row(n, row.tag))
         }
     }
 
@@ -73,6 +84,7 @@ impl Twin {
                     let empty = self.is(Altered::EmptyTextIsABadRow) && row.length == 0;
                     row.kind == TEXT && inside && !empty
                 }
+                Some(_) if self.is(Altered::PlaceOfNumbersAsked) && row.place > 65_535 => false,
                 Some(form) => self.is_good_number(row, form),
             }
     }
@@ -153,9 +165,9 @@ impl Twin {
         }
         packet
     }
-}
 
-fn bad_row(n: usize, tag: u64) -> Refused {
-    let named = (1..=LAST_TAG).contains(&tag);
-    refused(17, n, if named { tag } else { 0 })
+    fn bad_row(self, n: usize, tag: u64) -> Refused {
+        let named = (1..=LAST_TAG).contains(&tag) || self.is(Altered::BadRowsTagAlwaysNamed);
+        refused(17, n, if named { tag } else { 0 })
+    }
 }

@@ -1,10 +1,14 @@
 //! Document 01's worked values: product and twin both answer them.
 
+use oysterknoll::LONGEST_LISTING;
+
+use crate::bench::must_hold;
 use crate::catalogue::ALL;
 use crate::compare::Comparer;
+use crate::conversions::scaled;
 use crate::make::repair_checksum;
 use crate::twin::Twin;
-use crate::wire::{length_at, put_length, put_tag, tag_at, KEY};
+use crate::wire::{length_at, put_length, put_tag, tag_at, KEY, MOST_BYTES};
 
 const TO_HOUSE: [(u64, u64, i64); 12] = [
     (18, 0x724A_0A20, 1_607_192_114),
@@ -33,20 +37,14 @@ const TO_CODE: [(u64, i64, u64); 5] = [
 fn worked_conversions() {
     let mut comparer = Comparer::new(Twin::TRUE);
     for (tag, code, value) in TO_HOUSE {
-        comparer
-            .to_house(tag, code)
-            .expect("product and twin agree");
+        must_hold(comparer.to_house(tag, code));
         assert_eq!(oysterknoll::to_house(tag, code), Ok(value));
     }
     for (tag, value, code) in TO_CODE {
-        comparer
-            .to_code(tag, value)
-            .expect("product and twin agree");
+        must_hold(comparer.to_code(tag, value));
         assert_eq!(oysterknoll::to_code(tag, value), Ok(code));
     }
-    comparer
-        .to_house(26, 0x8000)
-        .expect("product and twin agree");
+    must_hold(comparer.to_house(26, 0x8000));
     assert_eq!(comparer.tally.refusals[20], 1);
 }
 
@@ -60,11 +58,13 @@ fn worked_lengths_and_tags() {
     assert_eq!(tag_at(&[0x80, 0x05]), None);
 }
 
-/// A packet of items 2 and 65, these items, and the checksum.
-fn packet_of(items: &[(u64, &[u8])]) -> Vec<u8> {
-    let mut body = vec![2, 8, 0, 0, 0, 0, 0, 0, 0, 1, 65, 1, 17];
-    for &(tag, value) in items {
-        put_tag(&mut body, tag);
+type Items = Vec<(u64, Vec<u8>)>;
+
+/// A packet of these items and the checksum.
+fn packet_of(items: &Items) -> Vec<u8> {
+    let mut body = Vec::new();
+    for (tag, value) in items {
+        put_tag(&mut body, *tag);
         put_length(&mut body, value.len(), 0);
         body.extend_from_slice(value);
     }
@@ -76,41 +76,75 @@ fn packet_of(items: &[(u64, &[u8])]) -> Vec<u8> {
     packet
 }
 
-#[test]
-fn worked_packet() {
-    let packet = packet_of(&[]);
-    assert_eq!(packet[packet.len() - 4..], [1, 2, 0x62, 0xA6]);
-    let listing =
-        "place\ttag\tkind\tvalue\n19\t2\tnumber\t1\n29\t65\tnumber\t17\n32\t1\tnumber\t25254\n";
-    let mut comparer = Comparer::new(Twin::TRUE);
-    comparer
-        .list(&packet, |needed| needed)
-        .expect("product and twin agree");
-    assert_eq!(Twin::TRUE.listing(&packet).as_deref(), Ok(listing));
+/// The items of the worked packet but for its checksum.
+fn worked_items() -> Items {
+    vec![(2, vec![0, 0, 0, 0, 0, 0, 0, 1]), (65, vec![17])]
 }
 
-/// The refusal's number of a packet of these items, 0 if accepted.
-fn refusal_of(items: &[(u64, &[u8])]) -> u64 {
-    let packet = packet_of(items);
+#[test]
+fn worked_packet() {
+    let packet = packet_of(&worked_items());
+    assert_eq!(packet[packet.len() - 4..], [1, 2, 0x62, 0xA6]);
+    let lines = [
+        "place\ttag\tkind\tvalue\n",
+        "19\t2\tnumber\t1\n",
+        "29\t65\tnumber\t17\n",
+        "32\t1\tnumber\t25254\n",
+    ];
+    assert_eq!(Twin::TRUE.listing(&packet), Ok(lines.concat()));
+    let verdict = Comparer::new(Twin::TRUE).list(&packet, |needed| needed);
+    must_hold(verdict);
+}
+
+/// The refusal's number of the worked packet with more items, 0 if accepted.
+fn refusal_with(tag: u64, value: &[u8], times: usize) -> usize {
+    let mut items = worked_items();
+    items.resize(items.len() + times, (tag, value.to_vec()));
     let mut comparer = Comparer::new(Twin::TRUE);
-    comparer
-        .read(&packet, ALL, 512)
-        .expect("product and twin agree");
+    must_hold(comparer.read(&packet_of(&items), ALL, 512));
     let refusals = comparer.tally.refusals;
-    (1..22)
-        .find(|&number| refusals[number as usize] > 0)
-        .unwrap_or(0)
+    (1..22).find(|&number| refusals[number] > 0).unwrap_or(0)
 }
 
 #[test]
 fn worked_limits() {
-    let bytes = [7; 128];
     for (length, refusal) in [(0, 12), (1, 0), (127, 0), (128, 12)] {
-        assert_eq!(refusal_of(&[(3, &bytes[..length])]), refusal);
+        assert_eq!(refusal_with(3, &[7; 128][..length], 1), refusal);
     }
-    let unknown: (u64, &[u8]) = (40, &[]);
-    assert_eq!(refusal_of(&vec![unknown; 125]), 0);
-    assert_eq!(refusal_of(&vec![unknown; 126]), 6);
-    assert_eq!(refusal_of(&[(63, &[8])]), 0);
-    assert_eq!(refusal_of(&[(63, &[9])]), 14);
+    assert_eq!(refusal_with(40, &[], 125), 0);
+    assert_eq!(refusal_with(40, &[], 126), 6);
+    assert_eq!(refusal_with(63, &[8], 1), 0);
+    assert_eq!(refusal_with(63, &[9], 1), 14);
+}
+
+/// All scaled items at their longest value and carried ones up to 128 items, from place 1,000 on but for two.
+fn items_of_the_longest_listing() -> Items {
+    let long = MOST_BYTES - 1_000;
+    let mut items = vec![
+        (2, vec![0xFF; 8]),
+        (100, vec![0xAB; long]),
+        (65, vec![0xFF]),
+    ];
+    for (tag, scale) in scaled(32) {
+        let end = if scale.signed { scale.low } else { scale.high };
+        let code = Twin::TRUE.to_code(tag, end).expect("an end has a code");
+        let bytes = scale.bits as usize / 8;
+        items.push((tag, code.to_be_bytes()[8 - bytes..].to_vec()));
+    }
+    items.resize(127, (100, Vec::new()));
+    let room = MOST_BYTES - packet_of(&items).len();
+    items[1].1.resize(long + room, 0xAB);
+    items
+}
+
+#[test]
+fn longest_listing() {
+    let packet = packet_of(&items_of_the_longest_listing());
+    assert_eq!(packet.len(), MOST_BYTES);
+    let mut comparer = Comparer::new(Twin::TRUE);
+    must_hold(comparer.list(&packet, |needed| needed));
+    must_hold(comparer.list(&packet, |needed| needed - 1));
+    let length = Twin::TRUE.listing(&packet).map(|listing| listing.len());
+    assert_eq!(length, Ok(18_220));
+    assert!(LONGEST_LISTING >= 18_220);
 }
