@@ -46,14 +46,14 @@ const LAWS: [Law; 7] = [
     Law {
         number: 1,
         name: "reader",
-        share: 400_000,
+        share: 320_000,
         refusals: &[1, 2, 3, 4, 5, 6, 7, 8, 9, 10, 11, 12, 13, 14, 15],
         case: laws::reader,
     },
     Law {
         number: 2,
         name: "forwarder",
-        share: 180_000,
+        share: 120_000,
         refusals: &[1, 3, 4, 5, 6, 7, 8, 9, 10, 11, 12, 13, 14, 15, 18],
         case: laws::forwarder,
     },
@@ -67,28 +67,28 @@ const LAWS: [Law; 7] = [
     Law {
         number: 4,
         name: "writer",
-        share: 300_000,
+        share: 250_000,
         refusals: &[1, 3, 9, 10, 12, 13, 14, 15, 16, 17, 18],
         case: laws::writer,
     },
     Law {
         number: 5,
         name: "heights and corners",
-        share: 250_000,
+        share: 150_000,
         refusals: &[1, 3, 4, 5, 6, 7, 8, 9, 10, 11, 12, 13, 14, 15],
         case: laws::heights_and_corners,
     },
     Law {
         number: 6,
         name: "listing",
-        share: 50_000,
+        share: 30_000,
         refusals: &[3, 4, 5, 6, 7, 8, 9, 10, 11, 12, 13, 14, 15, 18],
         case: laws::listing,
     },
     Law {
         number: 7,
         name: "conversions",
-        share: 520_000,
+        share: 330_000,
         refusals: &[19, 20, 21],
         case: conversions::conversions,
     },
@@ -98,14 +98,14 @@ const LAWS: [Law; 7] = [
 const WRITTEN_READS_BACK: Law = Law {
     number: 8,
     name: "written reads back",
-    share: 60_000,
+    share: 40_000,
     refusals: &[],
     case: demands::written_reads_back,
 };
 const FULLER_AND_POORER: Law = Law {
     number: 9,
     name: "fuller and poorer",
-    share: 60_000,
+    share: 40_000,
     // Those that only the fuller receiver gives.
     refusals: &[12, 13, 14],
     case: demands::fuller_and_poorer,

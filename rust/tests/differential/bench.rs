@@ -20,6 +20,7 @@ pub struct Bench {
     pub comparer: Comparer,
     pub packet: Vec<u8>,
     pub table: Table,
+    seed: u64,
     packet_as_made: Vec<u8>,
     table_as_made: Table,
 }
@@ -31,6 +32,7 @@ impl Bench {
             comparer: Comparer::new(twin),
             packet: Vec::new(),
             table: Table::default(),
+            seed: seed(),
             packet_as_made: Vec::new(),
             table_as_made: Table::default(),
         }
@@ -54,7 +56,7 @@ impl Bench {
 
     /// One case; a difference is told with all that is needed to see it again.
     pub fn try_case(&mut self, law: &Law, case: u64) -> Verdict {
-        let seed = seed();
+        let seed = self.seed;
         self.maker.random = Random::of_case(seed, law.number, case);
         let verdict = (law.case)(self).and_then(|()| self.inputs_stay());
         verdict.map_err(|difference| {

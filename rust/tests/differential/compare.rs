@@ -34,6 +34,8 @@ pub struct Comparer {
     pub twin: Twin,
     pub tally: Tally,
     table: Lent<u64>,
+    /// What the table is to begin with.
+    words: Vec<u64>,
     out: Lent<u8>,
 }
 
@@ -62,6 +64,7 @@ impl Comparer {
             twin,
             tally: Tally::default(),
             table: Lent::new(544, |n| 0xA5A5_0000_0000_0001 + 7 * n as u64),
+            words: Vec::new(),
             out: Lent::new(MOST_OUT, |n| (n * 7 + n / 256) as u8 | 1),
         }
     }
@@ -82,8 +85,11 @@ impl Comparer {
             _ => true,
         };
         let product = product.map(|rows| rows.len());
-        let table = rows.as_ref().map(|rows| self.twin.table(rows));
-        let memory_is_right = self.table.holds_only(&table.unwrap_or_default());
+        self.words.clear();
+        if let Ok(rows) = &rows {
+            self.twin.put_table(rows, &mut self.words);
+        }
+        let memory_is_right = self.table.holds_only(&self.words);
         let twin = rows.map(|rows| rows.len());
         self.agree(
             asked.with(&[table_words]),

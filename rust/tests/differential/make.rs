@@ -61,13 +61,14 @@ impl Maker {
         self.parts.clear();
         self.store.clear();
         self.add(2);
-        match self.random.below(64) {
+        // Small ones mostly, since the others take many times as long.
+        match self.random.below(128) {
             0 => self.add_others(122, 127),
             1 => self.add_large(),
             2 => self.add_to_the_limit(),
             3 => self.add_catalogue(),
-            4..=6 => self.add_others(9, 40),
-            7..=18 => self.add_places(),
+            4..=9 => self.add_others(9, 40),
+            10..=29 => self.add_places(),
             _ => self.add_others(0, 8),
         }
         self.insert_65();

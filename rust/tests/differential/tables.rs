@@ -30,26 +30,18 @@ impl Maker {
     /// Any table: right, changed in one place, or of odd rows.
     pub fn table(&mut self, table: &mut Table) {
         table.set = self.good_set();
-        match self.random.below(16) {
-            0 => self.odd_table(table),
-            1 => self.heavy_table(table),
-            2..=5 => self.table_of_a_packet(table),
-            6..=8 => {
-                self.table_of_a_packet(table);
-                self.rearrange(table);
-            }
-            9 => {
-                self.table_of_a_packet(table);
-                self.change_what_is_lent(table);
-            }
-            10 => {
-                self.table_of_a_packet(table);
-                self.change_a_judged_value(table);
-            }
-            _ => {
-                self.table_of_a_packet(table);
-                self.change_a_word(table);
-            }
+        let choice = self.random.below(32);
+        match choice {
+            0 => return self.heavy_table(table),
+            1 | 2 => return self.odd_table(table),
+            _ => self.table_of_a_packet(table),
+        }
+        match choice {
+            3..=11 => {}
+            12..=17 => self.rearrange(table),
+            18 | 19 => self.change_what_is_lent(table),
+            20..=22 => self.change_a_judged_value(table),
+            _ => self.change_a_word(table),
         }
     }
 

@@ -202,13 +202,12 @@ impl Twin {
         }
     }
 
-    /// The table after an accepted packet: what its first words are.
-    pub fn table(self, rows: &[Row]) -> Vec<u64> {
-        let mut words: Vec<u64> = rows.iter().flat_map(|row| row.words()).collect();
+    /// The words that an accepted packet puts at the table's beginning.
+    pub fn put_table(self, rows: &[Row], words: &mut Vec<u64>) {
+        words.extend(rows.iter().flat_map(|row| row.words()));
         if !self.is(Altered::RestOfTheTableStays) {
             words.resize(512, 0);
         }
-        words
     }
 
     pub fn is_outside_its_codes(self, tag: u64, form: Form, code: u64) -> bool {
