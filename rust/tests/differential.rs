@@ -221,8 +221,8 @@ fn every_tag_without_scale() {
     let mut comparer = Comparer::new(Twin::TRUE);
     let small = (0..20_000).chain(2_097_000..2_097_200);
     for tag in small.filter(|&tag| Scale::of(tag).is_none()) {
-        must_hold(comparer.to_house(tag, 1));
-        must_hold(comparer.to_code(tag, 1));
+        must_hold(comparer.house_of(tag, 1));
+        must_hold(comparer.code_of(tag, 1));
     }
     report("every tag without scale", &comparer.tally);
     assert_eq!(comparer.tally.accepted, 0);

@@ -147,7 +147,7 @@ impl Comparer {
         self.agree_on_bytes(asked.with(&[length]), product, listing, length)
     }
 
-    pub fn to_house(&mut self, tag: u64, code: u64) -> Verdict {
+    pub fn house_of(&mut self, tag: u64, code: u64) -> Verdict {
         let twin = self.twin.to_house(tag, code);
         let product = oysterknoll::to_house(tag, code);
         let asked = Asked::of("to_house", &[], 0);
@@ -159,7 +159,7 @@ impl Comparer {
         )
     }
 
-    pub fn to_code(&mut self, tag: u64, value: i64) -> Verdict {
+    pub fn code_of(&mut self, tag: u64, value: i64) -> Verdict {
         let twin = self.twin.to_code(tag, value);
         let product = oysterknoll::to_code(tag, value);
         let asked = Asked::of("to_code", &[], 0);

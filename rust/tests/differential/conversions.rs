@@ -34,13 +34,13 @@ pub fn scaled(most_bits: u32) -> impl Iterator<Item = (u64, Scale)> {
 
 /// A code in product, twin and law.
 pub fn code_agrees(comparer: &mut Comparer, tag: u64, scale: Scale, code: u64) -> Verdict {
-    comparer.to_house(tag, code)?;
+    comparer.house_of(tag, code)?;
     house_law(tag, scale, code)
 }
 
 /// A value in product, twin and law.
 pub fn value_agrees(comparer: &mut Comparer, tag: u64, scale: Scale, value: i64) -> Verdict {
-    comparer.to_code(tag, value)?;
+    comparer.code_of(tag, value)?;
     code_law(tag, scale, value)
 }
 
@@ -105,10 +105,10 @@ pub fn conversions(bench: &mut Bench) -> Verdict {
     let Some(scale) = Scale::of(tag) else {
         let tag = maker.random.pick(&NO_SCALE);
         let any = maker.random.next();
-        bench.comparer.to_house(tag, any)?;
-        bench.comparer.to_house(tag, any & 3)?;
-        bench.comparer.to_code(tag, any as i64)?;
-        return bench.comparer.to_code(tag, 0);
+        bench.comparer.house_of(tag, any)?;
+        bench.comparer.house_of(tag, any & 3)?;
+        bench.comparer.code_of(tag, any as i64)?;
+        return bench.comparer.code_of(tag, 0);
     };
     for _ in 0..4 {
         let any_code = maker.any_code(scale);

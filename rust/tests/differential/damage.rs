@@ -1,4 +1,4 @@
-//! Packets damaged in one place, and noise.
+//! Packets damaged in a place or two, and noise.
 
 use crate::make::{repair_checksum, Maker};
 use crate::wire::{put_length, KEY};
@@ -22,6 +22,10 @@ impl Maker {
     fn packet_of_damaged_parts(&mut self, packet: &mut Vec<u8>) {
         self.make_parts();
         self.damage_parts();
+        // A second fault shows which of two refusals comes first.
+        if self.random.one_in(3) {
+            self.damage_parts();
+        }
         self.encode_parts();
         let outer = self.long_form();
         self.wrap(packet, outer);
@@ -31,6 +35,9 @@ impl Maker {
     }
 
     fn damage_parts(&mut self) {
+        if self.parts.is_empty() {
+            return;
+        }
         let n = self.random.below(self.parts.len());
         let to = self.random.below(self.parts.len());
         match self.random.below(8) {

@@ -24,23 +24,33 @@ impl Table {
             set: self.set,
         }
     }
+
+    /// Whether there are rows and as many words as they take.
+    fn has_all_rows(&self) -> bool {
+        (1..=self.words.len() / 4).contains(&self.count)
+    }
 }
 
 impl Maker {
-    /// Any table: right, changed in one place, or of odd rows.
+    /// Any table: right, changed in a place or two, or of odd rows.
     pub fn table(&mut self, table: &mut Table) {
         table.set = self.good_set();
-        let choice = self.random.below(32);
-        match choice {
-            0 => return self.heavy_table(table),
-            1 | 2 => return self.odd_table(table),
+        match self.random.below(32) {
+            0 => self.heavy_table(table),
+            1 | 2 => self.odd_table(table),
             _ => self.table_of_a_packet(table),
         }
-        match choice {
-            3..=11 => {}
-            12..=17 => self.rearrange(table),
-            18 | 19 => self.change_what_is_lent(table),
-            20..=22 => self.change_a_judged_value(table),
+        // Two changes show which of two refusals comes first.
+        for _ in 0..self.random.pick(&[0, 0, 1, 1, 1, 2]) {
+            self.change(table);
+        }
+    }
+
+    fn change(&mut self, table: &mut Table) {
+        match self.random.below(16) {
+            0 | 1 => self.change_what_is_lent(table),
+            2..=4 => self.change_a_judged_value(table),
+            5..=8 => self.rearrange(table),
             _ => self.change_a_word(table),
         }
     }
@@ -64,7 +74,7 @@ impl Maker {
 
     /// Rows dropped, doubled or moved.
     fn rearrange(&mut self, table: &mut Table) {
-        if table.count == 0 {
+        if !table.has_all_rows() {
             return;
         }
         let n = self.random.below(table.count);
@@ -88,8 +98,8 @@ impl Maker {
             0 => table.set = self.set(),
             1 => {
                 let fewer = self.random.below(table.words.len() + 1);
-                let one_less = (4 * table.count).saturating_sub(1);
-                let words = self.random.pick(&[fewer, one_less, 4 * table.count]);
+                let enough = table.count.saturating_mul(4);
+                let words = self.random.pick(&[fewer, enough.saturating_sub(1), enough]);
                 table.words.truncate(words);
             }
             2 => {
@@ -99,7 +109,7 @@ impl Maker {
             _ => {
                 let counts = [0, 1, 128, 129, 130, 1 << 62, usize::MAX / 4, usize::MAX];
                 table.count = match self.random.below(3) {
-                    0 => table.count + 1,
+                    0 => table.count.saturating_add(1),
                     1 => table.count.saturating_sub(1),
                     _ => self.random.pick(&counts),
                 };
@@ -108,7 +118,7 @@ impl Maker {
     }
 
     fn change_a_word(&mut self, table: &mut Table) {
-        if table.count == 0 || table.words.len() < 4 * table.count {
+        if !table.has_all_rows() {
             return;
         }
         let n = self.random.below(table.count);
