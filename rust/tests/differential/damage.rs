@@ -3,6 +3,9 @@
 use crate::make::{repair_checksum, Maker};
 use crate::wire::{put_length, KEY};
 
+/// More bytes than a length may have, by which 0x85 and above are written.
+const FORBIDDEN_LENGTH_BYTES: [usize; 3] = [5, 6, 8];
+
 impl Maker {
     /// Any packet: good, damaged or noise.
     pub fn packet(&mut self, packet: &mut Vec<u8>) {
@@ -27,7 +30,10 @@ impl Maker {
             self.damage_parts();
         }
         self.encode_parts();
-        let outer = self.long_form();
+        let outer = match self.random.below(32) {
+            0 => self.random.pick(&FORBIDDEN_LENGTH_BYTES),
+            _ => self.long_form(),
+        };
         self.wrap(packet, outer);
         if !self.random.one_in(16) {
             repair_checksum(packet);
@@ -40,11 +46,16 @@ impl Maker {
         }
         let n = self.random.below(self.parts.len());
         let to = self.random.below(self.parts.len());
-        match self.random.below(8) {
+        match self.random.below(9) {
             0 => {
                 self.parts.remove(n);
             }
-            1 | 2 => self.parts.insert(to, self.parts[n]),
+            1 => self.parts.insert(to, self.parts[n]),
+            2 => {
+                let mut doubled = self.parts[n];
+                doubled.place = self.random.below(self.store.len() - doubled.length);
+                self.parts.insert(to, doubled);
+            }
             3 => {
                 let part = self.parts.remove(n);
                 self.parts.insert(to, part);
@@ -52,6 +63,7 @@ impl Maker {
             4 => self.parts[n].tag = self.unknown_tag(),
             5 => self.parts[n].tag = self.parts[to].tag,
             6 if self.random.one_in(4) => self.parts.truncate(n),
+            6 => self.parts[n].length_bytes = self.random.pick(&FORBIDDEN_LENGTH_BYTES),
             _ => self.wrong_length(n),
         }
     }
@@ -66,6 +78,8 @@ impl Maker {
             4 => part.length + 2,
             _ => part.length.saturating_sub(1),
         };
+        // A doubled item's value may stand near the store's end.
+        part.length = part.length.min(self.store.len() - part.place);
     }
 
     /// The items' bytes damaged, then packed with a right outer length.

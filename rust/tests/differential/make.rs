@@ -281,7 +281,7 @@ impl Maker {
         }
     }
 
-    fn bad_set(&mut self) -> u128 {
+    pub fn bad_set(&mut self) -> u128 {
         let good = self.good_set();
         match self.random.below(6) {
             0 => 0,

@@ -44,12 +44,16 @@ impl Maker {
         for _ in 0..self.random.pick(&[0, 0, 1, 1, 1, 2]) {
             self.change(table);
         }
+        if self.random.one_in(24) {
+            table.set = self.bad_set();
+        }
     }
 
     fn change(&mut self, table: &mut Table) {
         match self.random.below(16) {
             0 | 1 => self.change_what_is_lent(table),
-            2..=4 => self.change_a_judged_value(table),
+            2 | 3 => self.change_judged_values(table),
+            4 => self.double_judged_rows(table),
             5..=8 => self.rearrange(table),
             _ => self.change_a_word(table),
         }
@@ -95,7 +99,7 @@ impl Maker {
     /// Another set, count, number of words or buffer than the rows are for.
     fn change_what_is_lent(&mut self, table: &mut Table) {
         match self.random.below(5) {
-            0 => table.set = self.set(),
+            0 => table.set = self.good_set(),
             1 => {
                 let fewer = self.random.below(table.words.len() + 1);
                 let enough = table.count.saturating_mul(4);
@@ -138,12 +142,13 @@ impl Maker {
         }
     }
 
-    /// A text's length, or a number's code, changed so that 12 or 14 may come.
-    fn change_a_judged_value(&mut self, table: &mut Table) {
+    /// Texts' lengths and numbers' codes changed so that 12 or 14 may come.
+    fn change_judged_values(&mut self, table: &mut Table) {
+        let from = 4 * self.random.below(table.words.len() / 4 + 1);
         let lengths = [0, 1, 127, 128, 129, 200];
         let length = self.random.pick(&lengths);
         let code = self.random.below(11) as u64;
-        for words in table.words.chunks_exact_mut(4) {
+        for words in table.words[from..].chunks_exact_mut(4) {
             let mut row = Row::from_words(words);
             if row.kind == TEXT {
                 row.length = length;
@@ -153,6 +158,21 @@ impl Maker {
             }
             words.copy_from_slice(&row.words());
         }
+    }
+
+    /// Judged rows put before themselves, those behind having other values: 13 meets 12 and 14.
+    fn double_judged_rows(&mut self, table: &mut Table) {
+        if !table.has_all_rows() || table.count > 32 {
+            return;
+        }
+        let first = table.words[..4 * table.count].to_vec();
+        self.change_judged_values(table);
+        let judged = first
+            .chunks_exact(4)
+            .filter(|words| matches!(words[0], 34 | 63) || words[1] == TEXT);
+        let before: Vec<u64> = judged.flatten().copied().collect();
+        table.count += before.len() / 4;
+        table.words.splice(4..4, before);
     }
 
     fn odd_tag(&mut self, tag: u64) -> u64 {
