@@ -37,3 +37,15 @@ impl<T: Copy + PartialEq> Lent<T> {
             && self.memory[end..whole] == self.before[end..whole]
     }
 }
+
+#[test]
+fn every_change_of_lent_memory_is_seen() {
+    let mut lent = Lent::new(6, |n| n as u64 + 100);
+    for changed in 0..6 + 2 * GUARD {
+        lent.lend(6)[..2].copy_from_slice(&[1, 2]);
+        assert!(lent.holds_only(&[1, 2]));
+        assert!(!lent.holds_only(&[1]) && !lent.holds_only(&[1, 3]));
+        lent.memory[changed] += 1_000;
+        assert!(!lent.holds_only(&[1, 2]));
+    }
+}
