@@ -102,15 +102,14 @@ pub fn must_hold(verdict: Verdict) {
 
 pub fn report(name: &str, tally: &Tally) {
     let came = (1..22).filter(|&number| tally.refusals[number] > 0);
-    let refusals: Vec<String> = came
-        .map(|number| format!("{number}: {}", tally.refusals[number]))
+    let refusals: String = came
+        .map(|number| format!("; {number}: {}", tally.refusals[number]))
         .collect();
     println!(
-        "{name}: {} cases of seed {}, {} accepted; refusals {}",
+        "{name}: {} cases of seed {}; accepted: {}{refusals}",
         tally.cases,
         seed(),
-        tally.accepted,
-        refusals.join(", ")
+        tally.accepted
     );
 }
 

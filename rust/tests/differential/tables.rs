@@ -1,4 +1,4 @@
-//! Seeded row tables for the writer: read from packets, changed in one place, or odd from the start.
+//! Seeded row tables for the writer: read from packets, changed in a place or two, or odd from the start.
 
 use crate::catalogue::{form, ALL, SMALLEST};
 use crate::make::Maker;
@@ -179,7 +179,7 @@ impl Maker {
         let odd = [0, 1, 2, 65, 3, 34, 63, 130, LAST_TAG, LAST_TAG + 1, 1 << 63];
         match self.random.below(4) {
             0 => tag ^ 1 << self.random.below(64),
-            1 => tag + 128,
+            1 => tag.wrapping_add(128),
             2 => self.unknown_tag(),
             _ => self.random.pick(&odd),
         }
