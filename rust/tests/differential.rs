@@ -133,6 +133,8 @@ const fn total() -> u64 {
 }
 
 const _: () = assert!(TOTAL >= 1_000_000);
+// Packets, tables and listings: all but the conversions.
+const _: () = assert!(TOTAL - LAWS[6].share >= 1_000_000);
 
 #[test]
 fn reader() {
