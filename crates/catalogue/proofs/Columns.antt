@@ -1,16 +1,16 @@
 -- The column of shapes: what it says of each tag is what the catalogue says.
 -- Assumes nothing.
-use Prim.Native.Nat.{ℕ, _≤_}
+use Prim.Native.Nat.{ℕ, _-_, _%_, _<_, _≤_}
 use native.Mathlib.Omega.{arith}
 use mathlib.Core.Path.{_≡_, refl, ap, sym, _∙_}
 use mathlib.Core.Bool.{Bool, true, false, _||_}
 use lib.Dec.{leb, eqb}
 use lib.ListN.{getD}
-use borrow.Author.Tests.{leb-true, eqb-true, le-leb, lt-leb}
+use borrow.Author.Tests.{leb-true, eqb-true, ne-eqb, le-leb, lt-leb}
 use Rattle.base.specs.Cases.{byLt, clash}
 use Rattle.base.specs.Every.{allBelow, all-below}
 use Rattle.catalogue.specs.Items.{groups, member, itemIn, itemOf}
-use Rattle.catalogue.specs.Shapes.{shapeBy, shapeOf, codesLimited, codeAllowed}
+use Rattle.catalogue.specs.Shapes.{shapeBy, shapeOf, shapeAllows, codesLimited, codeAllowed}
 use Rattle.catalogue.specs.Column.{columnFrom, shapeColumn, shapeFrom, shapeIn}
 use Rattle.catalogue.specs.declared.Shape.{Shape}
 use Rattle.catalogue.specs.declared.Shape.the-variants.{Text, Number, Absent}
@@ -59,6 +59,13 @@ shape-in-column t =
     byLt t 128
     (λ h. rw (lt-leb 128 t h) (same-shape _ _ (all-below inColumn 128 all-in-column t h)))
     (λ h. rw (le-leb 128 t h, item-beyond t h))
+
+-- a byte of a number says its width
+pub byte-allows : (b n : ℕ) → b < 256 → (b ≡ 0 → ⊥) → (b ≡ 255 → ⊥) → eqb n (b % 128) ≡ shapeAllows (shapeFrom b) n
+byte-allows b n h some there =
+    byLt b 128
+    (λ k. let e : b % 128 ≡ b = omega arith in rw (ne-eqb b 255 there, ne-eqb b 0 some, lt-leb 128 b k, e))
+    (λ k. let e : b % 128 ≡ b - 128 = omega arith in rw (ne-eqb b 255 there, ne-eqb b 0 some, le-leb 128 b k, e))
 
 -- no number has more than eight bytes
 narrow : Shape → Bool

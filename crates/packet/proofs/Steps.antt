@@ -67,8 +67,8 @@ module _ (p : List ℕ) (at t n : ℕ) (tag : t ≡ getD p at 0) (size : n ≡ g
   unfolding readLength shortForms
   plain-length = rw (byte-at p (at + 1) size (omega arith), both-right (ltb t 128) _ (both-right (ltb 0 t) _ short))
 
-  pub short-past-the-end : length p - (at + 1 + 1) < n → headerAt p at ≡ refused 8 at t
-  short-past-the-end = past-the-end p at t 1 plain-tag n 1 plain-length (omega arith)
+  pub short-past-the-end : length p < at + 1 + 1 + n → headerAt p at ≡ refused 8 at t
+  short-past-the-end h = past-the-end p at t 1 plain-tag n 1 plain-length (omega arith) (omega arith)
 
-  pub short-item : n ≤ length p - (at + 1 + 1) → headerAt p at ≡ given (record { tag = t; start = at; place = at + 1 + 1; size = n })
-  short-item = one-item p at t 1 plain-tag n 1 plain-length (omega arith)
+  pub short-item : at + 1 + 1 + n ≤ length p → headerAt p at ≡ given (record { tag = t; start = at; place = at + 1 + 1; size = n })
+  short-item h = one-item p at t 1 plain-tag n 1 plain-length (omega arith) (omega arith)

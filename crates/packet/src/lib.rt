@@ -102,7 +102,7 @@ pub fn item_at(packet: &[u8], at: usize) -> Step
     if is_short(tag, length) {
         let place = after + 1;
         let size = length as usize;
-        if packet.len() - place < size {
+        if packet.len() < place + size {
             return Step::Refused(Refusal {
                 reason: Reason::LengthBroken,
                 place: at,
@@ -196,7 +196,7 @@ fn is_plain(column: &[u8; 128], known: TagSet, seen: TagSet, item: Header) -> bo
         if catalogue::limits_codes(tag) {
             return false;
         }
-        return catalogue::allows_length(catalogue::shape_at(column, tag), item.size);
+        return catalogue::allows_length_at(column, tag, item.size);
     }
     true
 }

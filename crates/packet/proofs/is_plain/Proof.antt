@@ -26,15 +26,12 @@ returns-2 : tie.Need-returns-2
 unfolding plainIn
 returns-2 c = rw (← c .before .before .before .before .before .has .ensures, c .before .before .before .before .if1 .taken, ← c .before .before .before .has2 .ensures, c .before .before .if2 .left, ← c .before .limits-codes .ensures, c .if3 .taken)
 
-shape-at-requires : tie.Need-shape-at-requires
-shape-at-requires c κs = search needs
-
-allows-length-requires : tie.Need-allows-length-requires
-allows-length-requires c κs = search needs
+allows-length-at-requires : tie.Need-allows-length-at-requires
+allows-length-at-requires c κs = search needs
 
 returns-3 : tie.Need-returns-3
 unfolding plainIn
-returns-3 c = rw (← c .before .before .before .before .before .before .before .has .ensures, c .before .before .before .before .before .before .if1 .taken, ← c .before .before .before .before .before .has2 .ensures, c .before .before .before .before .if2 .left, ← c .before .before .before .limits-codes .ensures, c .before .before .if3 .left) (c .allows-length .ensures ∙ ap (λ s. shapeAllows s (c .before .before .before .before .before .before .before .before .args .item .size)) (c .before .shape-at .ensures ∙ (ap (λ l. shapeIn l (c .before .before .before .before .before .before .before .before .args .item .tag)) (c .before .before .before .before .before .before .before .before .pre) ∙ shape-in-column (c .before .before .before .before .before .before .before .before .args .item .tag))))
+returns-3 c = rw (← c .before .before .before .before .before .before .has .ensures, c .before .before .before .before .before .if1 .taken, ← c .before .before .before .before .has2 .ensures, c .before .before .before .if2 .left, ← c .before .before .limits-codes .ensures, c .before .if3 .left) (c .allows-length-at .ensures ∙ ap (λ s. shapeAllows s (c .before .before .before .before .before .before .before .args .item .size)) (ap (λ l. shapeIn l (c .before .before .before .before .before .before .before .args .item .tag)) (c .before .before .before .before .before .before .before .pre) ∙ shape-in-column (c .before .before .before .before .before .before .before .args .item .tag)))
 
 returns-4 : tie.Need-returns-4
 unfolding plainIn
@@ -49,7 +46,6 @@ is-plain-spec =
     returns
     limits-codes-requires
     returns-2
-    shape-at-requires
-    allows-length-requires
+    allows-length-at-requires
     returns-3
     returns-4)

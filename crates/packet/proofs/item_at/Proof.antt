@@ -43,8 +43,8 @@ is-short-requires c κs = search needs
 add-place : tie.Need-add-place
 add-place c = search needs
 
-sub-if4 : tie.Need-sub-if4
-sub-if4 c = search needs
+add-if4 : tie.Need-add-if4
+add-if4 c = search needs
 
 returns-3 : tie.Need-returns-3
 returns-3 c = let a = c .before .before .before .before .before .before .before .before .before .before .args in sym (short-past-the-end (a .packet .now) (a .at) _ _ (c .before .before .before .before .before .wide .ensures .0) (c .before .before .before .wide2 .ensures .0) (omega arith) (omega arith) (sym (c .before .before .is-short .ensures) ∙ c .before .if3 .taken) (c .if4 .taken))
@@ -74,7 +74,7 @@ item-at-spec =
     wide-requires-2
     is-short-requires
     add-place
-    sub-if4
+    add-if4
     returns-3
     returns-4
     any-item-at-requires-3
