@@ -29,7 +29,7 @@ fn archive_folder() -> PathBuf {
     }
 }
 
-/// The proofs are of x86-64 machine code, so there is no archive for another processor.
+/// The proved code is compiled for x86-64 Linux alone, so there is no archive for another target.
 fn stop_on_another_target() {
     let is = |name: &str, wanted: &str| env::var(name).as_deref() == Ok(wanted);
     if !(is("CARGO_CFG_TARGET_ARCH", "x86_64")

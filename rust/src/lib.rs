@@ -23,8 +23,8 @@
 //!
 //! # Linking
 //!
-//! The library is an archive of x86-64 machine code for Linux, since that is what is proved; on another target the build stops and
-//! says so. `rt staticlib oysterknoll` at the root of the repository makes it, and the crate finds it there. An archive that stands
+//! The library is an archive of x86-64 machine code for Linux, the one target that proved code is compiled for; on another the build
+//! stops and says so. `rt staticlib oysterknoll` at the root of the repository makes it, and the crate finds it there. An archive that stands
 //! elsewhere is named by its folder in `OYSTERKNOLL_LIB_DIR`.
 //!
 //! # House units
