@@ -19,6 +19,9 @@ else
     cargo_target=(--target x86_64-unknown-linux-gnu)
 fi
 
+# Where rustup puts cargo, for a shell that has not been told.
+command -v cargo >/dev/null || PATH=$PATH:${CARGO_HOME:-${HOME-}/.cargo}/bin
+
 # Sees to it that the tools are there.
 prepare() {
     command -v cargo >/dev/null || { echo "cargo is not on the PATH: the crate in rust/ needs it" >&2; return 1; }
