@@ -93,6 +93,6 @@ either : (a b : Bool) → a || b ≡ false → (a ≡ false) × (b ≡ false)
 either true b e = clash e
 either false b e = (refl, e)
 
-pub codes-free : (t c : ℕ) → codesLimited t ≡ false → codeAllowed t c ≡ true
+pub codes-free : (t n c : ℕ) → codesLimited t ≡ false → codeAllowed t n c ≡ true
 unfolding codesLimited codeAllowed
-codes-free t c e = let f = either (eqb t 34) (eqb t 63) e in rw (f .0, f .1)
+codes-free t n c e = let f = either (eqb t 34) (eqb t 63) e in rw (f .0, f .1)

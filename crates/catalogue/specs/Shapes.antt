@@ -32,9 +32,9 @@ shapeAllows Shape.Absent n = false
 unfoldable pub lengthAllowed : ℕ → ℕ → Bool
 lengthAllowed t n = shapeAllows (shapeOf t) n
 
--- whether a tag allows a code: "34 (u8, codes 0 to 2), 63 (u8, codes 0 to 8)"
-unfoldable pub codeAllowed : ℕ → ℕ → Bool
-codeAllowed t code = cond (eqb t 34) (ltb code 3) (cond (eqb t 63) (ltb code 9) true)
+-- whether a tag allows a code of a length: "34 (u8, codes 0 to 2), 63 (u8, codes 0 to 8)", which allow one length each
+unfoldable pub codeAllowed : ℕ → ℕ → ℕ → Bool
+codeAllowed t n code = cond (eqb t 34) (ltb code 3) (cond (eqb t 63) (ltb code 9) true)
 
 -- the tags that do not allow every code
 unfoldable pub codesLimited : ℕ → Bool

@@ -252,8 +252,8 @@ pub fn limits_codes(tag: u64) -> bool
 }
 
 // Whether an item may have a code: 34 goes from 0 to 2 and 63 from 0 to 8, every other takes all.
-pub fn allows_code(tag: u64, code: u64) -> bool
-    ensures { λ r. ⌜ r ≡ codeAllowed tag code ⌝ }
+pub fn allows_code(tag: u64, size: usize, code: u64) -> bool
+    ensures { λ r. ⌜ r ≡ codeAllowed tag size code ⌝ }
 {
     if tag == 34 {
         return code < 3;

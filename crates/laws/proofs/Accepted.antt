@@ -4,8 +4,8 @@ use Prim.Native.Nat.{ℕ}
 use mathlib.Core.Path.{_≡_, refl}
 use mathlib.Core.Bool.{true}
 use mathlib.Core.List.{List}
-use Rattle.base.specs.Cases.{never}
-use Rattle.refusal.specs.Answer.{Answer, given, refused}
+use Rattle.refusal.specs.Answer.{given}
+use Rattle.refusal.proofs.Answers.{not-given, given-same, passed, then-given}
 use Rattle.number.specs.Stored.{Bytes}
 use Rattle.tagset.specs.Sets.{holds}
 use Rattle.tagset.specs.declared.TagSet.{TagSet}
@@ -15,7 +15,7 @@ use Rattle.packet.specs.Structure.{structure}
 use Rattle.packet.specs.Judge.{Knowing, Judged, fine, faulty, noVersion, judge}
 use Rattle.packet.specs.Verdict.{placed, judged, verdict, received}
 use Rattle.packet.specs.Allowed.{Allowed}
-use Rattle.laws.proofs.Structure.{passed, structure-formed, formed-structure}
+use Rattle.laws.proofs.Structure.{structure-formed, formed-structure}
 use Rattle.laws.proofs.Clean.{fine-clean, clean-fine}
 
 -- accepting is finding the items, and no fault in them
@@ -27,16 +27,14 @@ module _ (K : Knowing) (p : List ℕ) (is : List Item) where
   -- who accepts has found the items and no fault in them, and the other way round
   pub accepts : verdict K p ≡ given is → Accepts K p is
   unfolding verdict
-  accepts e = go (structure p) refl e
+  accepts e =
+      let v = then-given (structure p) (judged K) e in
+      judging (v .between) (judge K (pieces (v .between))) (v .first) refl (v .second)
     where
       judging : (js : List Item) (x : Judged) → structure p ≡ given js → judge K (pieces js) ≡ x → placed js x ≡ given is → Accepts K p is
-      judging js fine f g h = let same : js ≡ is = cc in rw (← same) (record { found = f; faultless = g })
-      judging js (faulty k n t) f g h = never (cc)
-      judging js noVersion f g h = never (cc)
-
-      go : (a : Answer (List Item)) → structure p ≡ a → judged K a ≡ given is → Accepts K p is
-      go (refused n a t) f g = never (cc)
-      go (given js) f g = judging js (judge K (pieces js)) f refl g
+      judging js fine f g h = rw (← given-same h) (record { found = f; faultless = g })
+      judging js (faulty k n t) f g h = not-given h
+      judging js noVersion f g h = not-given h
 
   pub accepting : Accepts K p is → verdict K p ≡ given is
   unfolding verdict

@@ -13,28 +13,28 @@ use Rattle.base.specs.Cases.{byBool, clash, never}
 use Rattle.number.specs.Stored.{valueOf}
 use Rattle.catalogue.specs.Shapes.{lengthAllowed, codeAllowed}
 use Rattle.packet.specs.Pieces.{Piece}
-use Rattle.packet.specs.Judge.{Knowing, has, Fault, clean, wrong, faultOf, Judged, fine, faulty, noVersion, later, judgeFrom, judge}
+use Rattle.packet.specs.Judge.{Knowing, has, among, Fault, clean, wrong, faultOf, Judged, fine, faulty, noVersion, later, judgeFrom, judge}
 use Rattle.packet.specs.Allowed.{pieceAt, Clean}
 
 -- a known item by itself, after the tags that were seen
 record Right (seen : List ℕ) (c : Piece) : Type 0 where
   sized : lengthAllowed (c .tag) (length (c .value)) ≡ true
   fresh : has (c .tag) seen ≡ false
-  coded : codeAllowed (c .tag) (valueOf (c .value)) ≡ true
+  coded : codeAllowed (c .tag) (length (c .value)) (valueOf (c .value)) ≡ true
 
 module _ (K : Knowing) (seen : List ℕ) (c : Piece) where
-  clean-right : faultOf K seen c ≡ clean → K (c .tag) ≡ true → Right seen c
+  clean-right : faultOf K (among seen) c ≡ clean → K (c .tag) ≡ true → Right seen c
   unfolding faultOf lengthAllowed
   clean-right e k =
       byBool (lengthAllowed (c .tag) (length (c .value)))
       (λ a. byBool (has (c .tag) seen)
       (λ b. let z : wrong 13 ≡ clean = rw (k, a, b) at e in never (cc))
-      (λ b. byBool (codeAllowed (c .tag) (valueOf (c .value)))
+      (λ b. byBool (codeAllowed (c .tag) (length (c .value)) (valueOf (c .value)))
       (λ d. record { sized = a; fresh = b; coded = d })
       (λ d. let z : wrong 14 ≡ clean = rw (k, a, b, d) at e in never (cc))))
       (λ a. let z : wrong 12 ≡ clean = rw (k, a) at e in never (cc))
 
-  right-clean : (K (c .tag) ≡ true → Right seen c) → faultOf K seen c ≡ clean
+  right-clean : (K (c .tag) ≡ true → Right seen c) → faultOf K (among seen) c ≡ clean
   unfolding faultOf lengthAllowed
   right-clean r = byBool (K (c .tag)) (λ k. rw (k, r k .sized, r k .fresh, r k .coded)) (λ k. rw k)
 
@@ -58,7 +58,7 @@ record CleanAfter (K : Knowing) (seen : List ℕ) (cs : List Piece) : Type 0 whe
   version : (has 65 seen ≡ true) ⊎ Present cs
 
 module _ (K : Knowing) where
-  clean-cons : (seen : List ℕ) (c : Piece) (cs : List Piece) → faultOf K seen c ≡ clean → CleanAfter K (c .tag ∷ seen) cs → CleanAfter K seen (c ∷ cs)
+  clean-cons : (seen : List ℕ) (c : Piece) (cs : List Piece) → faultOf K (among seen) c ≡ clean → CleanAfter K (c .tag ∷ seen) cs → CleanAfter K seen (c ∷ cs)
   unfolding Present
   clean-cons seen c cs e r = record { right = right; once = once; version = version }
     where
@@ -106,14 +106,14 @@ module _ (K : Knowing) where
         once = λ j k p h. absurd (omega arith);
         version = inl (byBool (has 65 seen) (λ f. f) (λ f. let z : noVersion ≡ fine = rw f at e in never (cc)));
       }
-  fine-after seen (c ∷ cs) e = go (faultOf K seen c) refl (fine-after (c .tag ∷ seen) cs)
+  fine-after seen (c ∷ cs) e = go (faultOf K (among seen) c) refl (fine-after (c .tag ∷ seen) cs)
     where
       still : (j : Judged) → later j ≡ fine → j ≡ fine
       still fine f = refl
       still (faulty k n t) f = never (cc)
       still noVersion f = never (cc)
 
-      go : (x : Fault) → faultOf K seen c ≡ x → (judgeFrom K (c .tag ∷ seen) cs ≡ fine → CleanAfter K (c .tag ∷ seen) cs) → CleanAfter K seen (c ∷ cs)
+      go : (x : Fault) → faultOf K (among seen) c ≡ x → (judgeFrom K (c .tag ∷ seen) cs ≡ fine → CleanAfter K (c .tag ∷ seen) cs) → CleanAfter K seen (c ∷ cs)
       go clean f rest = clean-cons seen c cs f (rest (still _ (rw f at e)))
       go (wrong n) f rest = let z : faulty zero n (c .tag) ≡ fine = rw f at e in never (cc)
 

@@ -8,6 +8,7 @@ use lib.ListN.{length, length-append}
 use Rattle.base.specs.Cases.{byBool}
 use Rattle.base.specs.Every.{Each}
 use Rattle.refusal.specs.Answer.{Answer, given, refused}
+use Rattle.refusal.proofs.Answers.{passed}
 use Rattle.number.specs.Stored.{Bytes}
 use Rattle.number.proofs.Laws.{bytes-left, bytes-right}
 use Rattle.ber.specs.Written.{tagBytes}
@@ -22,7 +23,7 @@ use Rattle.packet.specs.Verdict.{placed, verdict, received}
 use Rattle.packet.specs.Encode.{itemBytes, itemsBytes, encode, canonical}
 use Rattle.packet.specs.Allowed.{ItemsOf, noMore, another, Formed}
 use Rattle.laws.proofs.Items.{piece-length}
-use Rattle.laws.proofs.Structure.{passed, structure-formed, formed-length}
+use Rattle.laws.proofs.Structure.{structure-formed, formed-length}
 use Rattle.laws.proofs.Accepted.{accepts}
 use Rattle.laws.proofs.Written.{length-item, length-pieces, Tagged, SameBut, judged-alike, Sendable, length-encode, ReadBack, read-back, encode-bytes}
 

@@ -4,15 +4,15 @@
 use Prim.Native.Nat.{ℕ, _<_, _≤_}
 use native.Mathlib.Omega.{arith}
 use mathlib.Core.Path.{_≡_, refl, ap, sym, _∙_}
-use mathlib.Core.Bool.{Bool, true, _&&_}
+use mathlib.Core.Bool.{Bool, true, false, _&&_}
 use mathlib.Core.List.{List, [], _∷_}
 use lib.ListN.{length}
 use lib.Dec.{eqb}
 use borrow.Author.Tests.{le-ltb}
 use lib.Arith.{digits-mod}
-use Rattle.base.specs.Cases.{byBool, never}
+use Rattle.base.specs.Cases.{byBool, never, clash}
 use Rattle.base.specs.Every.{Each, both-left}
-use Rattle.refusal.specs.Answer.{Answer, given, refused}
+use Rattle.refusal.specs.Answer.{Answer, given, refused, map}
 use Rattle.number.specs.Stored.{Bytes, valueOf, bytesOf}
 use Rattle.catalogue.specs.Items.{groups, member, itemIn, itemOf}
 use Rattle.catalogue.specs.Shapes.{shapeOf}
@@ -24,11 +24,12 @@ use Rattle.knowing.specs.Good.{good}
 use Rattle.packet.specs.Pieces.{Piece, Item, pieces}
 use Rattle.packet.specs.Structure.{structure}
 use Rattle.packet.specs.Judge.{Knowing, Judged, fine, faulty, noVersion, judge}
-use Rattle.packet.specs.Verdict.{placed, verdict, counted}
+use Rattle.packet.specs.Verdict.{placed, verdict}
 use Rattle.packet.specs.Encode.{encode, canonical}
-use Rattle.rows.specs.Kinds.{shapeFor, kindIn, codeIn, Row, markCode}
-use Rattle.rows.specs.Taken.{spotLength}
-use Rattle.packet.specs.Rows.{rowOf, rowsOf, bytesAt, pieceOf, piecesOf, tableOf, lentVerdict, readAnswer, tableBy, readTable, rowsIn, SameRow, SameTable, noRows, oneMore}
+use Rattle.rows.specs.Meaning.{shapeFor, meaningOf, kindOf, kindFor, codeOf, isNumber, saidBy, Row, markCode}
+use Rattle.rows.specs.Taken.{spotLength, rowSays}
+use Rattle.rows.proofs.Laws.{kind-seen}
+use Rattle.packet.specs.Rows.{rowOf, rowsOf, bytesAt, pieceOf, piecesOf, tableOf, lentVerdict, Filled, filledBy, readAnswer, tableBy, readTable, rowsIn, SameRow, SameTable, noRows, oneMore}
 use Rattle.laws.proofs.Accepted.{accepts, accepting}
 use Rattle.laws.proofs.Written.{sumPiece, SameBut, atLast, further, but-length, judged-alike, length-pieces, Sendable, ReadBack, read-back, written-accepted}
 use Rattle.laws.proofs.Forward.{canonical-is, canonical-back}
@@ -37,11 +38,10 @@ use Rattle.laws.proofs.Rows.{GoodRow, Made, all-made, rows-good}
 use Rattle.laws.proofs.Sent.{Lies, formed-lie, bytes-back, rows-pieces, sentOn, sent-canonical}
 
 -- a number's row points at nothing
-no-place : (width : ℕ) (marked : Bool) (code : ℕ) → 2 < kindIn (Number width marked) code → ⊥
-no-place width marked code h =
-    byBool (marked && eqb code (markCode width))
-    (λ e. let z : 2 < 2 = rw e at h in omega arith)
-    (λ e. let z : 2 < 1 = rw e at h in omega arith)
+number-row : {A : Type 0} (width : ℕ) (marked : Bool) (code kind c size : ℕ) (a : A) → kind ≡ kindFor (Number width marked) code
+    → isNumber (saidBy kind c size a) ≡ true
+number-row width marked code kind c size a e =
+    byBool (marked && eqb code (markCode width)) (λ m. rw (e, m)) (λ m. rw (e, m))
 
 module _ (K : Knowing) (b q : List ℕ) where
   row-size : (j : Item) → Lies q j → spotLength (rowOf K j .spot) ≡ length (j .piece .value)
@@ -54,14 +54,18 @@ module _ (K : Knowing) (b q : List ℕ) where
   same-row r j m l e =
       record {
         tag = ap (λ (c : Piece). c .tag) e;
-        kind = m .kind ∙ ap (λ (c : Piece). kindIn (shapeFor K (c .tag)) (valueOf (c .value))) e;
-        code = λ other. m .code other ∙ ap (λ (c : Piece). codeIn (shapeFor K (c .tag)) (valueOf (c .value))) e;
+        kind = m .kind ∙ ap (λ (c : Piece). kindOf (meaningOf (shapeFor K (c .tag)) (c .value))) e;
+        code = λ other. m .code other ∙ ap (λ (c : Piece). codeOf (meaningOf (shapeFor K (c .tag)) (c .value))) e;
         size = m .size ∙ (ap (λ (c : Piece). length (c .value)) e ∙ sym (row-size j l));
         value = λ h. pointed (shapeFor K (r .tag)) refl h ∙ (ap (λ (c : Piece). c .value) e ∙ sym (bytes-back K q j l));
       }
     where
-      pointed : (s : Shape) → shapeFor K (r .tag) ≡ s → 2 < r .kind → bytesAt b r ≡ pieceOf K b r .value
-      pointed (Number width marked) f h = absurd (no-place width marked (valueOf (bytesOf width (r .code))) (rw (m .kind, f) at h))
+      pointed : (s : Shape) → shapeFor K (r .tag) ≡ s → isNumber (rowSays r) ≡ false → bytesAt b r ≡ pieceOf K b r .value
+      pointed (Number width marked) f h =
+          let v : List ℕ = pieceOf K b r .value in
+          let k : r .kind ≡ kindFor (Number width marked) (valueOf v) =
+          m .kind ∙ (ap (λ s. kindOf (meaningOf s v)) f ∙ kind-seen (length v) v (Number width marked) (valueOf v)) in
+          clash (sym (number-row width marked (valueOf v) (r .kind) _ _ _ k) ∙ h)
       pointed Text f h = rw f
       pointed Absent f h = rw f
 
@@ -78,7 +82,7 @@ module _ (K : Knowing) (b q : List ℕ) where
         kind = reading ∙ rw (one′, k);
         code = λ other. absurd (other one);
         size = m .size ∙ (ap (λ (c : Piece). length (c .value)) f ∙ (e ∙ (sym (ap (λ (c : Piece). length (c .value)) g) ∙ sym (row-size j l))));
-        value = λ h. absurd (omega arith);
+        value = λ h. clash (sym (rw reading) ∙ h);
       }
 
   -- rows, and the rows of their pieces, the checksum's value aside
@@ -130,9 +134,10 @@ module _ (K : Knowing) (p : List ℕ) (is : List Item) (by : Bytes p) (k : K 1 �
       )
 
 -- two readings up to places: the same refusal and tag, or the same count and the same table
-pub data SameReading (p q : List ℕ) : Answer ℕ → List ℕ → Answer ℕ → List ℕ → Type 0 where
+pub data SameReading (p q : List ℕ) : Answer Filled → List ℕ → Answer Filled → List ℕ → Type 0 where
   bothRefuse : {n t a b : ℕ} {l m : List ℕ} → SameReading p q (refused n a t) l (refused n b t) m
-  bothRead : {n : ℕ} {l m : List ℕ} → SameTable p q (rowsIn 0 n l) (rowsIn 0 n m) → SameReading p q (given n) l (given n) m
+  bothRead : {done : Filled} {l m : List ℕ} → SameTable p q (rowsIn 0 (done .count) l) (rowsIn 0 (done .count) m)
+      → SameReading p q (given done) l (given done) m
 
 -- who has a good set knows the checksum
 knows-sum : (K : TagSet) → good K ≡ true → holds K 1 ≡ true
@@ -154,8 +159,8 @@ module _ (K : TagSet) (p t t′ : List ℕ) (is : List Item) (by : Bytes p) (fou
       (λ g. rw g bothRefuse)
     where
       go : good K ≡ true → (j : Judged) → judge (holds K) (pieces is) ≡ j
-          → SameReading p (encode (pieces is)) (counted (placed is j)) (tableBy (holds K) t (placed is j))
-          (counted (placed (sent .items) j)) (tableBy (holds K) t′ (placed (sent .items) j))
+          → SameReading p (encode (pieces is)) (map filledBy (placed is j)) (tableBy (holds K) t (placed is j))
+          (map filledBy (placed (sent .items) j)) (tableBy (holds K) t′ (placed (sent .items) j))
       go g fine f =
           let count : length (sent .items) ≡ length is = sym (length-pieces (sent .items)) ∙ (sym (but-length (sent .same)) ∙ length-pieces is) in
           let rows : SameTable p (encode (pieces is)) (rowsIn 0 (length is) (tableOf (holds K) is t)) (rowsIn 0 (length is) (tableOf (holds K) (sent .items) t′)) =
@@ -166,8 +171,8 @@ module _ (K : TagSet) (p t t′ : List ℕ) (is : List Item) (by : Bytes p) (fou
       go g noVersion f = bothRefuse
 
 -- demand 3, second half: a packet that a receiver accepts and sends on is read by every other as it was before
-pub sent-reading : (K K′ : TagSet) (p s t t′ : List ℕ) (n : ℕ) → Bytes p → readAnswer K p s ≡ given n → 512 ≤ length t → 512 ≤ length t′
-    → SameReading p (sentOn K p s n) (readAnswer K′ p t) (readTable K′ p t) (readAnswer K′ (sentOn K p s n) t′) (readTable K′ (sentOn K p s n) t′)
-sent-reading K K′ p s t t′ n by e long long′ =
-    let r = has-read K p s n e in
-    rw (sent-canonical K p s n by e) (same-reading K′ p t t′ (r .items) by (accepts (holds K) p (r .items) (r .accepted) .found) long long′)
+pub sent-reading : (K K′ : TagSet) (p s t t′ : List ℕ) (done : Filled) → Bytes p → readAnswer K p s ≡ given done → 512 ≤ length t → 512 ≤ length t′
+    → SameReading p (sentOn K p s done) (readAnswer K′ p t) (readTable K′ p t) (readAnswer K′ (sentOn K p s done) t′) (readTable K′ (sentOn K p s done) t′)
+sent-reading K K′ p s t t′ done by e long long′ =
+    let r = has-read K p s done e in
+    rw (sent-canonical K p s done by e) (same-reading K′ p t t′ (r .items) by (accepts (holds K) p (r .items) (r .accepted) .found) long long′)

@@ -7,7 +7,7 @@ use mathlib.Core.Path.{_≡_, refl, sym, _∙_}
 use mathlib.Core.Bool.{true, false}
 use mathlib.Core.List.{List, [], _∷_}
 use Rattle.base.specs.Cases.{byBool, byEq, clash, never}
-use Rattle.refusal.specs.Answer.{Answer, given, refused}
+use Rattle.refusal.specs.Answer.{Answer, given, refused, then}
 use Rattle.tagset.specs.Sets.{holds}
 use Rattle.tagset.specs.declared.TagSet.{TagSet}
 use Rattle.tagset.proofs.Laws.{Words, Included}
@@ -16,7 +16,7 @@ use Rattle.knowing.specs.Good.{inCatalogue, good}
 use Rattle.knowing.proofs.Laws.{good-means}
 use Rattle.packet.specs.Pieces.{Piece, Item, pieces}
 use Rattle.packet.specs.Structure.{structure}
-use Rattle.packet.specs.Judge.{Knowing, Fault, clean, wrong, faultOf, Judged, faulty, later, onFault, judgeFrom, judge}
+use Rattle.packet.specs.Judge.{Knowing, among, Fault, clean, wrong, faultOf, Judged, faulty, later, onFault, judgeFrom, judge}
 use Rattle.packet.specs.Verdict.{placed, judged, verdict, received}
 
 -- K′ knows all that K knows
@@ -42,11 +42,11 @@ module _ (K K′ : Knowing) (below : Below K K′) where
   two-later agreed = agreed
   two-later (found o) = found o
 
-  fault-known : (seen : List ℕ) (c : Piece) → K (c .tag) ≡ true → faultOf K seen c ≡ faultOf K′ seen c
+  fault-known : (seen : Knowing) (c : Piece) → K (c .tag) ≡ true → faultOf K seen c ≡ faultOf K′ seen c
   unfolding faultOf
   fault-known seen c e = rw (e, below (c .tag) e)
 
-  fault-unknown : (K : Knowing) (seen : List ℕ) (c : Piece) → K (c .tag) ≡ false → faultOf K seen c ≡ clean
+  fault-unknown : (K seen : Knowing) (c : Piece) → K (c .tag) ≡ false → faultOf K seen c ≡ clean
   unfolding faultOf
   fault-unknown K seen c e = rw e
 
@@ -55,10 +55,10 @@ module _ (K K′ : Knowing) (below : Below K K′) where
   two-judged seen [] = agreed
   two-judged seen (c ∷ cs) =
       byBool (K (c .tag))
-      (λ k. rw (fault-known seen c k) (known (faultOf K′ seen c) (two-judged (c .tag ∷ seen) cs)))
-      (λ k. rw (fault-unknown K seen c k) (byBool (K′ (c .tag))
-      (λ k′. unknown (record { unknown = k; known = k′ }) (faultOf K′ seen c) (two-judged (c .tag ∷ seen) cs))
-      (λ k′. rw (fault-unknown K′ seen c k′) (two-later (two-judged (c .tag ∷ seen) cs)))))
+      (λ k. rw (fault-known (among seen) c k) (known (faultOf K′ (among seen) c) (two-judged (c .tag ∷ seen) cs)))
+      (λ k. rw (fault-unknown K (among seen) c k) (byBool (K′ (c .tag))
+      (λ k′. unknown (record { unknown = k; known = k′ }) (faultOf K′ (among seen) c) (two-judged (c .tag ∷ seen) cs))
+      (λ k′. rw (fault-unknown K′ (among seen) c k′) (two-later (two-judged (c .tag ∷ seen) cs)))))
     where
       known : {i j : Judged} (x : Fault) → TwoJudged K K′ i j → TwoJudged K K′ (onFault x (c .tag) i) (onFault x (c .tag) j)
       known clean r = two-later r
@@ -77,7 +77,7 @@ module _ (K K′ : Knowing) (below : Below K K′) where
       place is agreed = agree
       place is (found o) = refuses o
 
-      go : (a : Answer (List Item)) → Two K K′ (judged K a) (judged K′ a)
+      go : (a : Answer (List Item)) → Two K K′ (then a (judged K)) (then a (judged K′))
       go (refused n p t) = agree
       go (given is) = place is (two-judged [] (pieces is))
 

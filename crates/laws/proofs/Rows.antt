@@ -2,7 +2,7 @@
 -- Assumes nothing.
 use Prim.Native.Nat.{ℕ, _+_, _*_, _^_, _<_}
 use native.Mathlib.Omega.{arith}
-use mathlib.Core.Path.{_≡_, refl, sym, _∙_}
+use mathlib.Core.Path.{_≡_, refl, ap, sym, _∙_}
 use mathlib.Core.Bool.{Bool, true, false, _&&_}
 use mathlib.Core.List.{List, [], _∷_}
 use lib.ListN.{length, length-take, length-drop}
@@ -18,7 +18,8 @@ use Rattle.catalogue.specs.Items.{groups, member, itemIn, itemOf}
 use Rattle.catalogue.specs.Shapes.{shapeOf}
 use Rattle.catalogue.specs.declared.Shape.{Shape}
 use Rattle.catalogue.specs.declared.Shape.the-variants.{Text, Number, Absent}
-use Rattle.rows.specs.Kinds.{Row, shapeFor, kindIn, codeIn}
+use Rattle.rows.specs.Meaning.{Row, shapeFor, meaningOf, kindOf, kindFor, codeOf}
+use Rattle.rows.proofs.Laws.{kind-seen, code-seen}
 use Rattle.rows.specs.Taken.{spotPlace, spotLength, tagGood, codeGood, contentGood, rowGood}
 use Rattle.packet.specs.Pieces.{Item, pieces}
 use Rattle.packet.specs.Judge.{Knowing}
@@ -36,8 +37,8 @@ GoodRow K b r = rowGood (shapeFor K (r .tag)) (length b) r ≡ true
 
 -- a row as a receiver gives it to the piece that it stands for; the checksum's code is any
 pub record Made (K : Knowing) (b : List ℕ) (r : Row) : Type 0 where
-  pub kind : r .kind ≡ kindIn (shapeFor K (r .tag)) (valueOf (pieceOf K b r .value))
-  pub code : (r .tag ≡ 1 → ⊥) → r .code ≡ codeIn (shapeFor K (r .tag)) (valueOf (pieceOf K b r .value))
+  pub kind : r .kind ≡ kindOf (meaningOf (shapeFor K (r .tag)) (pieceOf K b r .value))
+  pub code : (r .tag ≡ 1 → ⊥) → r .code ≡ codeOf (meaningOf (shapeFor K (r .tag)) (pieceOf K b r .value))
   pub size : spotLength (r .spot) ≡ length (pieceOf K b r .value)
 
 -- the checksum has no mark
@@ -49,7 +50,7 @@ sum-unmarked K width marked e =
     (λ k. let f : Absent ≡ Number width marked = rw k at e in never (cc))
 
 module _ (K : Knowing) (b : List ℕ) (r : Row) where
-  number-made : (width : ℕ) (marked : Bool) → shapeFor K (r .tag) ≡ Number width marked → r .kind ≡ kindIn (Number width marked) (r .code)
+  number-made : (width : ℕ) (marked : Bool) → shapeFor K (r .tag) ≡ Number width marked → r .kind ≡ kindFor (Number width marked) (r .code)
       → contentGood (Number width marked) (length b) r ≡ true → Made K b r
   unfolding pieceOf
   number-made width marked f k c =
@@ -63,7 +64,8 @@ module _ (K : Knowing) (b : List ℕ) (r : Row) where
       let wide : ltb (r .code) (2 ^ (8 * width)) ≡ true = rw (ne-eqb (r .tag) 1 other) at (both-right (eqb (spotLength (r .spot)) width) _ c) in
       let fits : r .code < 256 ^ width = rw (bits-bytes width) at (ltb-true (r .code) (2 ^ (8 * width)) wide) in
       let back : valueOf (bytesOf width (r .code)) ≡ r .code = bytes-back width (r .code) fits in
-      record { kind = rw (f, back) k; code = λ z. rw f (sym back); size = rw f size })
+      let kind = k ∙ (ap (kindFor (Number width marked)) (sym back) ∙ sym (kind-seen _ (bytesOf width (r .code)) (Number width marked) _)) in
+      record { kind = rw f kind; code = λ z. rw f (sym back ∙ sym (code-seen _ (bytesOf width (r .code)) width marked _)); size = rw f size })
 
   part-size : leb (spotPlace (r .spot) + spotLength (r .spot)) (length b) ≡ true → spotLength (r .spot) ≡ length (bytesAt b r)
   part-size e = rw (length-take, length-drop) (omega (arith, leb-true (spotPlace (r .spot) + spotLength (r .spot)) (length b) e))
@@ -74,9 +76,9 @@ module _ (K : Knowing) (b : List ℕ) (r : Row) where
   good-made e =
       let e′ = both-right (tagGood (r .tag)) _ e in
       let shape : Shape = shapeFor K (r .tag) in
-      go shape refl (eqb-true _ _ (both-left (eqb (r .kind) (kindIn shape (r .code))) _ e′)) (both-right (eqb (r .kind) (kindIn shape (r .code))) _ e′)
+      go shape refl (eqb-true _ _ (both-left (eqb (r .kind) (kindFor shape (r .code))) _ e′)) (both-right (eqb (r .kind) (kindFor shape (r .code))) _ e′)
     where
-      go : (s : Shape) → shapeFor K (r .tag) ≡ s → r .kind ≡ kindIn s (r .code) → contentGood s (length b) r ≡ true → Made K b r
+      go : (s : Shape) → shapeFor K (r .tag) ≡ s → r .kind ≡ kindFor s (r .code) → contentGood s (length b) r ≡ true → Made K b r
       go (Number width marked) f k c = number-made width marked f k c
       go Text f k c =
           record { kind = rw f k; code = λ other. rw f (eqb-true _ _ (both-left (eqb (r .code) 0) _ c)); size = rw f (part-size (both-right (eqb (r .code) 0) _ c)) }
@@ -116,14 +118,14 @@ good-row K p i by t l s =
     part = rw (size, digits-div (i .place) (l .short)) (le-leb _ _ (l .inside))
 
     go : (x : Shape) → shapeFor K (i .piece .tag) ≡ x
-        → eqb (kindIn x (valueOf v)) (kindIn x (codeIn x (valueOf v))) && contentGood x (length p) (rowBy x i) ≡ true
+        → eqb (kindOf (meaningOf x v)) (kindFor x (codeOf (meaningOf x v))) && contentGood x (length p) (rowBy x i) ≡ true
     go (Number width marked) f =
         let w : length v ≡ width = number-width K (i .piece) width marked s f in
         let fits : valueOf v < 256 ^ width = rw w at (value-small v (lies-bytes p i by l)) in
         let coded : codeGood (i .piece .tag) width (valueOf v) ≡ true =
         byBool (eqb (i .piece .tag) 1) (λ e. rw e) (λ e. rw (e, bits-bytes width) (lt-ltb _ _ fits)) in
-        let k : ℕ = kindIn (Number width marked) (valueOf v) in
-        rw (eq-eqb k k refl, eq-eqb (spotLength (i .place * 65536 + length v)) width (size ∙ w)) coded
+        let code = code-seen (length v) v width marked (valueOf v) in
+        rw (code, eq-eqb _ _ (kind-seen (length v) v (Number width marked) (valueOf v)), eq-eqb (spotLength (i .place * 65536 + length v)) width (size ∙ w)) coded
     go Text f = part
     go Absent f = part
 

@@ -20,18 +20,19 @@ use Rattle.catalogue.specs.declared.Shape.{Shape}
 use Rattle.catalogue.specs.declared.Shape.the-variants.{Text, Number, Absent}
 use Rattle.tagset.specs.Sets.{holds}
 use Rattle.tagset.specs.declared.TagSet.{TagSet}
-use Rattle.rows.specs.Kinds.{shapeFor}
+use Rattle.rows.specs.Meaning.{shapeFor}
+use Rattle.rows.proofs.Laws.{code-seen}
 use Rattle.packet.specs.Pieces.{Piece, Item, pieces}
 use Rattle.packet.specs.Judge.{Knowing}
 use Rattle.packet.specs.Verdict.{verdict}
-use Rattle.packet.specs.Rows.{rowOf, rowsOf, readAnswer, readTable, rowsIn, bytesAt, valueIn, pieceOf, piecesOf}
+use Rattle.packet.specs.Rows.{rowOf, rowsOf, Filled, readAnswer, readTable, rowsIn, bytesAt, valueIn, pieceOf, piecesOf}
 use Rattle.packet.specs.Encode.{encode, canonical}
 use Rattle.packet.specs.Allowed.{headOf, ItemsOf, noMore, another, Formed, pieceAt}
 use Rattle.laws.proofs.Items.{pieceBytes, after-head, after-piece, piece-length}
 use Rattle.laws.proofs.Structure.{structure-formed, formed-length, formed-body}
 use Rattle.laws.proofs.Clean.{fine-clean}
 use Rattle.laws.proofs.Accepted.{accepts}
-use Rattle.laws.proofs.Tables.{has-read, rows-in-table}
+use Rattle.laws.proofs.Tables.{has-read, read-count, rows-in-table}
 use Rattle.laws.proofs.Forward.{canonical-is, forward-shorter}
 
 -- an item lies in the packet where it says
@@ -88,7 +89,8 @@ piece-back K p i by l sized = ap (λ v. record { tag = i .piece .tag; value = v 
   where
     back : (s : Shape) → shapeFor K (i .piece .tag) ≡ s → valueIn s p (rowOf K i) ≡ i .piece .value
     back (Number width marked) e =
-        rw e (spelled (i .piece .value) width (valueOf (i .piece .value)) (lies-bytes p i by l) (number-width K (i .piece) width marked sized e) refl)
+        rw (e, code-seen _ (i .piece .value) width marked (valueOf (i .piece .value)))
+        (spelled (i .piece .value) width (valueOf (i .piece .value)) (lies-bytes p i by l) (number-width K (i .piece) width marked sized e) refl)
     back Text e = bytes-back K p i l
     back Absent e = bytes-back K p i l
 
@@ -118,17 +120,17 @@ module _ (K : Knowing) (p : List ℕ) (is : List Item) (by : Bytes p) (e : verdi
   pub sent-on : encode (piecesOf K p (rowsOf K is)) ≡ canonical p
   sent-on = rw (rows-pieces, canonical-is p is by (accepts K p is e .found))
 
--- "sending on is reading and then writing all rows, the packet being the buffer": of n rows, read into the table t
-abbrev pub sentOn : TagSet → List ℕ → List ℕ → ℕ → List ℕ
-sentOn K p t n = encode (piecesOf (holds K) p (rowsIn 0 n (readTable K p t)))
+-- "sending on is reading and then writing all rows, the packet being the buffer": all rows that were read into the table t
+abbrev pub sentOn : TagSet → List ℕ → List ℕ → Filled → List ℕ
+sentOn K p t done = encode (piecesOf (holds K) p (rowsIn 0 (done .count) (readTable K p t)))
 
-module _ (K : TagSet) (p t : List ℕ) (n : ℕ) (by : Bytes p) (e : readAnswer K p t ≡ given n) where
+module _ (K : TagSet) (p t : List ℕ) (done : Filled) (by : Bytes p) (e : readAnswer K p t ≡ given done) where
   -- what is sent on does not depend on who sends
-  pub sent-canonical : sentOn K p t n ≡ canonical p
+  pub sent-canonical : sentOn K p t done ≡ canonical p
   sent-canonical =
-      let r = has-read K p t n e in
-      rw (r .table, rows-in-table (holds K) (r .items) t n (r .count)) (sent-on (holds K) p (r .items) by (r .accepted))
+      let r = has-read K p t done e in
+      rw (r .table, rows-in-table (holds K) (r .items) t (done .count) (read-count r)) (sent-on (holds K) p (r .items) by (r .accepted))
 
   -- and is never longer
-  pub sent-shorter : length (sentOn K p t n) ≤ length p
-  sent-shorter = let r = has-read K p t n e in rw sent-canonical (forward-shorter (holds K) p (r .items) by (r .accepted))
+  pub sent-shorter : length (sentOn K p t done) ≤ length p
+  sent-shorter = let r = has-read K p t done e in rw sent-canonical (forward-shorter (holds K) p (r .items) by (r .accepted))

@@ -3,15 +3,13 @@
 use Prim.Native.Nat.{ℕ, _+_, _≤_}
 use native.Mathlib.Omega.{arith}
 use mathlib.Core.Path.{_≡_, refl, ap, sym, _∙_, subst}
-use mathlib.Core.Bool.{Bool, true, false, cond}
 use mathlib.Core.List.{List, [], _∷_, _++_}
 use lib.ListN.{length, take, drop, length-append, length-take, length-drop, take-append-drop}
 use lib.Seq.{take-at, drop-at, drop-drop}
 use lib.Dec.{ltb, eqb}
 use borrow.Author.Tests.{ltb-false, le-ltb, eqb-true, eq-eqb}
-use Rattle.base.specs.Cases.{never}
-use Rattle.base.specs.Every.{both-left, both-right}
-use Rattle.refusal.specs.Answer.{Answer, given, refused}
+use Rattle.refusal.specs.Answer.{given}
+use Rattle.refusal.proofs.Answers.{not-given, given-same, passed, missed, then-given}
 use Rattle.number.specs.Stored.{Bytes, valueOf}
 use Rattle.number.proofs.Laws.{bytes-drop}
 use Rattle.ber.specs.Read.{Read, got, broken, readLength}
@@ -19,9 +17,11 @@ use Rattle.ber.specs.Forms.{LengthForm}
 use Rattle.ber.proofs.Laws.{LengthRead, length-read, form-read}
 use Rattle.checksum.specs.Sum.{checksumOf}
 use Rattle.packet.specs.Pieces.{Item, walk}
-use Rattle.packet.specs.Structure.{key, same, lastOf, isChecksum, lastly, ends, afterOuter, structure}
+use Rattle.packet.specs.Ends.{rightEnds}
+use Rattle.packet.specs.Structure.{key, same, lastOf, outerBy, frame, endsOf, rightSum, lastSum, closed, structure}
 use Rattle.packet.specs.Allowed.{ItemsOf, Formed}
 use Rattle.packet.proofs.Keys.{same-eq, same-refl}
+use Rattle.packet.proofs.Closing.{RightEnds, ends-right, right-ends}
 use Rattle.laws.proofs.Items.{endOf, items-end, end-last, Walked, walk-items, items-walk}
 
 pub length-key : length key ≡ 16
@@ -37,22 +37,13 @@ last-after : (i : Item) (front : List Item) (z : Item) → lastOf i (front ++ (z
 last-after i [] z = refl
 last-after i (j ∷ front) z = last-after j front z
 
--- a test that was passed on the way to what is given
-pub passed : {A : Type 0} (b : Bool) (x : Answer A) (n p t : ℕ) {y : A} → cond b x (refused n p t) ≡ given y → (b ≡ true) × (x ≡ given y)
-passed true x n p t e = (refl, e)
-passed false x n p t e = never (cc)
-
-pub missed : {A : Type 0} (b : Bool) (x : Answer A) (n p t : ℕ) {y : A} → cond b (refused n p t) x ≡ given y → (b ≡ false) × (x ≡ given y)
-missed true x n p t e = never (cc)
-missed false x n p t e = (refl, e)
-
 module _ (p : List ℕ) (is : List Item) (by : Bytes p) where
   -- the packet's size, key and outer length, and the items that were found after them
   outer-formed : length p ≤ 8192 → take 16 p ≡ key → (n s : ℕ) → readLength (drop 16 p) ≡ got n s → length p ≡ 16 + s + n
-      → (i : Item) (js : List Item) → walk 128 (16 + s) (drop (16 + s) p) ≡ given (i ∷ js) → i .piece .tag ≡ 2
-      → isChecksum (lastOf i js .piece) ≡ true → valueOf (lastOf i js .piece .value) ≡ checksumOf (take (lastOf i js .place) p)
+      → (i : Item) (js : List Item) → walk 128 (16 + s) (drop (16 + s) p) ≡ given (i ∷ js) → RightEnds (endsOf p (i ∷ js))
+      → valueOf (lastOf i js .piece .value) ≡ checksumOf (take (lastOf i js .place) p)
       → Formed p (i ∷ js)
-  outer-formed small ek n s er el i js ew e2 e1 es =
+  outer-formed small ek n s er el i js ew ends es =
       let z : Item = lastOf i js in
       let r : LengthRead (drop 16 p) n s = length-read (drop 16 p) n s (bytes-drop 16 by) er in
       let w : Walked 128 (16 + s) (drop (16 + s) p) (i ∷ js) = walk-items 128 (16 + s) (drop (16 + s) p) (i ∷ js) (bytes-drop (16 + s) by) ew in
@@ -70,49 +61,56 @@ module _ (p : List ℕ) (is : List Item) (by : Bytes p) where
         first = i;
         others = js;
         begins = refl;
-        time = e2;
+        time = ends .time;
         front = split-last i js .0;
         last = z;
         closes = split-last i js .1;
-        checksum = eqb-true _ _ (both-left (eqb (z .piece .tag) 1) _ e1);
-        pair = eqb-true _ _ (both-right (eqb (z .piece .tag) 1) _ e1);
+        checksum = ends .checksum;
+        pair = ends .pair;
         sum = es;
       }
 
   -- what structure gives is formed
   pub structure-formed : structure p ≡ given is → Formed p is
-  unfolding structure afterOuter ends lastly
+  unfolding structure frame rightEnds rightSum
   structure-formed e =
-      let a = missed (ltb 8192 (length p)) _ 3 0 0 e in
+      let f = then-given (frame p) _ e in
+      let w = then-given (walk 128 (f .between) (drop (f .between) p)) (closed p) (f .second) in
+      let a = missed (ltb 8192 (length p)) _ 3 0 0 (f .first) in
       let b = passed (same (take 16 p) key) _ 4 0 0 (a .1) in
-      outer (ltb-false _ _ (a .0)) (same-eq (take 16 p) key (b .0)) (readLength (drop 16 p)) refl (b .1)
+      outer (ltb-false _ _ (a .0)) (same-eq (take 16 p) key (b .0)) (f .between) (w .between) (w .first) (w .second) (readLength (drop 16 p)) refl (b .1)
     where
+      -- the items that were found, once the ends and the sum are right
       inner : length p ≤ 8192 → take 16 p ≡ key → (n s : ℕ) → readLength (drop 16 p) ≡ got n s → length p ≡ 16 + s + n
-          → (w : Answer (List Item)) → walk 128 (16 + s) (drop (16 + s) p) ≡ w → ends p w ≡ given is → Formed p is
-      inner h k n s f q (refused m a t) u g = never (cc)
-      inner h k n s f q (given []) u g = never (cc)
-      inner h k n s f q (given (i ∷ js)) u g =
+          → (js : List Item) → walk 128 (16 + s) (drop (16 + s) p) ≡ given js → closed p js ≡ given is → Formed p is
+      inner h k n s f q [] u g = not-given g
+      inner h k n s f q (i ∷ js) u g =
           let z : Item = lastOf i js in
-          let a = passed (eqb (i .piece .tag) 2) (lastly p z (i ∷ js)) 9 (i .start) (i .piece .tag) g in
-          let b = passed (isChecksum (z .piece)) _ 10 (z .start) (z .piece .tag) (a .1) in
-          let c = passed (eqb (valueOf (z .piece .value)) (checksumOf (take (z .place) p))) (given (i ∷ js)) 11 (z .place) 1 (b .1) in
-          let v : i ∷ js ≡ is = (let w : given (i ∷ js) ≡ given is = c .1 in cc) in
-          rw (← v) (outer-formed h k n s f q i js u (eqb-true _ _ (a .0)) (b .0) (eqb-true _ _ (c .0)))
+          let a = then-given (rightEnds (endsOf p (i ∷ js))) _ g in
+          let b = then-given (lastSum p (i ∷ js)) _ (a .second) in
+          let c = passed (eqb (valueOf (z .piece .value)) (checksumOf (take (z .place) p))) (given tt) 11 (z .place) 1 (b .first) in
+          rw (← given-same (b .second)) (outer-formed h k n s f q i js u (ends-right (endsOf p (i ∷ js)) (a .first)) (eqb-true _ _ (c .0)))
 
-      outer : length p ≤ 8192 → take 16 p ≡ key → (x : Read) → readLength (drop 16 p) ≡ x → afterOuter p x ≡ given is → Formed p is
-      outer h k broken f g = never (cc)
-      outer h k (got n s) f g =
-          let a = passed (eqb (length p) (16 + s + n)) (ends p (walk 128 (16 + s) (drop (16 + s) p))) 5 16 0 g in
-          inner h k n s f (eqb-true _ _ (a .0)) (walk 128 (16 + s) (drop (16 + s) p)) refl (a .1)
+      outer : length p ≤ 8192 → take 16 p ≡ key → (from : ℕ) (js : List Item) → walk 128 from (drop from p) ≡ given js → closed p js ≡ given is
+          → (x : Read) → readLength (drop 16 p) ≡ x → outerBy p x ≡ given from → Formed p is
+      outer h k from js u g broken f e = not-given e
+      outer h k from js u g (got n s) f e =
+          let a = passed (eqb (length p) (16 + s + n)) (given (16 + s)) 5 16 0 e in
+          inner h k n s f (eqb-true _ _ (a .0)) js (ap (λ at. walk 128 at (drop at p)) (given-same (a .1)) ∙ u) g
 
 -- what is formed is what structure gives
 module _ (p : List ℕ) (is : List Item) (f : Formed p is) where
-  ends-formed : ends p (given is) ≡ given is
-  unfolding ends lastly
-  ends-formed =
-      let z : Item = lastOf (f .first) (f .others) in
-      let ez : z ≡ f .last = ap (lastOf (f .first)) (sym (f .begins) ∙ f .closes) ∙ last-after (f .first) (f .front) (f .last) in
-      rw (f .begins, eq-eqb _ _ (f .time), ez, eq-eqb _ _ (f .checksum), eq-eqb _ _ (f .pair), eq-eqb _ _ (f .sum))
+  closed-formed : closed p (f .first ∷ f .others) ≡ given (f .first ∷ f .others)
+  unfolding rightSum
+  closed-formed =
+      let ez : lastOf (f .first) (f .others) ≡ f .last =
+      ap (lastOf (f .first)) (sym (f .begins) ∙ f .closes) ∙ last-after (f .first) (f .front) (f .last) in
+      let ends = right-ends (endsOf p (f .first ∷ f .others)) (record {
+        time = f .time;
+        checksum = ap (λ (i : Item). i .piece .tag) ez ∙ f .checksum;
+        pair = ap (λ (i : Item). length (i .piece .value)) ez ∙ f .pair;
+      }) in
+      rw (ends, ez, eq-eqb _ _ (f .sum))
 
   pub formed-length : length p ≡ 16 + length (f .form) + length (f .body)
   formed-length = ap length (f .whole) ∙ simp (length-append, length-key) (omega arith)
@@ -130,7 +128,7 @@ module _ (p : List ℕ) (is : List Item) (f : Formed p is) where
       omega (arith, items-end (f .items), ap (endOf at) (f .closes), end-last at (f .front) (f .last), f .pair, formed-length)
 
   pub formed-structure : structure p ≡ given is
-  unfolding structure afterOuter
+  unfolding structure frame
   formed-structure =
       let keyed : take 16 p ≡ key = ap (take 16) (f .whole) ∙ take-at key (f .form ++ f .body) 16 length-key in
       rw (
@@ -142,4 +140,4 @@ module _ (p : List ℕ) (is : List Item) (f : Formed p is) where
         eq-eqb _ _ formed-length,
         formed-body,
         items-walk (f .items) (f .few),
-      ) ends-formed
+      ) (rw (f .begins) closed-formed)

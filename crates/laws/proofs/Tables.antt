@@ -11,7 +11,8 @@ use lib.ListN.{length, getD}
 use lib.Dec.{ltb}
 use borrow.Author.Tests.{ltb-false, le-ltb}
 use Rattle.base.specs.Cases.{never}
-use Rattle.refusal.specs.Answer.{Answer, given, refused}
+use Rattle.refusal.specs.Answer.{Answer, given, refused, map}
+use Rattle.refusal.proofs.Answers.{not-given, given-same, passed, missed, map-given}
 use Rattle.number.specs.Stored.{Bytes}
 use Rattle.tagset.specs.Sets.{holds}
 use Rattle.tagset.specs.declared.TagSet.{TagSet}
@@ -19,21 +20,20 @@ use Rattle.tagset.proofs.Laws.{Included}
 use Rattle.knowing.specs.Good.{good}
 use Rattle.packet.specs.Pieces.{Item}
 use Rattle.packet.specs.Judge.{Knowing}
-use Rattle.packet.specs.Verdict.{counted, verdict, received}
+use Rattle.packet.specs.Verdict.{verdict, received}
 use Rattle.packet.specs.Allowed.{Allowed}
-use Rattle.rows.specs.Kinds.{shapeFor, Row}
+use Rattle.rows.specs.Meaning.{shapeFor, Row, carriedKind}
 use Rattle.rows.specs.Taken.{rowAt}
-use Rattle.packet.specs.Rows.{rowOf, rowsOf, words, tableOf, lentVerdict, readAnswer, readTable, rowsIn}
-use Rattle.laws.proofs.Structure.{passed, missed}
+use Rattle.packet.specs.Rows.{rowOf, rowsOf, words, tableOf, lentVerdict, Filled, filledBy, readAnswer, tableBy, readTable, rowsIn}
 use Rattle.laws.proofs.Accepted.{accepted-allowed, allowed-accepted}
 use Rattle.laws.proofs.Receivers.{Below, Only, larger-accepts, larger-refuses}
 
 abbrev itemIn : List Item → ℕ → Item
 itemIn is k = getD is k (record { start = 0; place = 0; piece = record { tag = 0; value = [] } })
 
--- the row of the same item, carried: kind 4, code 0, the same place and length
+-- the row of the same item, carried: code 0, the same place and length
 abbrev pub carried : Row → Row
-carried r = record { tag = r .tag; kind = 4; code = 0; spot = r .spot }
+carried r = record { tag = r .tag; kind = carriedKind; code = 0; spot = r .spot }
 
 -- an item's two rows
 module _ (K K′ : Knowing) (i : Item) where
@@ -85,50 +85,52 @@ module _ (words : List ℕ) (n count : ℕ) where
   unfolding rowsIn
   rows-none h = let e : count - n ≡ 0 = omega arith in rw e
 
--- what a receiver that answers a count has read: its set is good, its table long enough, and the table's rows are the items' own
-pub record HasRead (K : TagSet) (p t : List ℕ) (n : ℕ) : Type 0 where
+-- what a receiver that has read a packet has: its set is good, its table long enough, and the table's rows are the items' own
+pub record HasRead (K : TagSet) (p t : List ℕ) (done : Filled) : Type 0 where
   pub items : List Item
-  pub count : length items ≡ n
+  pub filled : filledBy items ≡ done
   pub right : good K ≡ true
   pub long : 512 ≤ length t
   pub accepted : verdict (holds K) p ≡ given items
   pub table : readTable K p t ≡ tableOf (holds K) items t
 
-pub has-read : (K : TagSet) (p t : List ℕ) (n : ℕ) → readAnswer K p t ≡ given n → HasRead K p t n
+pub has-read : (K : TagSet) (p t : List ℕ) (done : Filled) → readAnswer K p t ≡ given done → HasRead K p t done
 unfolding readAnswer readTable lentVerdict
-has-read K p t n e = go (lentVerdict K p t) refl e
-  where
-    go : (a : Answer (List Item)) → lentVerdict K p t ≡ a → counted a ≡ given n → HasRead K p t n
-    go (given is) f c =
-        let g = passed (good K) _ 1 0 0 f in
-        let h = missed (ltb (length t) 512) _ 2 0 0 (g .1) in
-        record { items = is; count = cc; right = g .0; long = ltb-false _ _ (h .0); accepted = h .1; table = rw f }
-    go (refused m a u) f c = never (cc)
+has-read K p t done e =
+    let f = map-given filledBy (lentVerdict K p t) e in
+    let g = passed (good K) _ 1 0 0 (f .1) in
+    let h = missed (ltb (length t) 512) _ 2 0 0 (g .1) in
+    record { items = f .0; filled = f .2; right = g .0; long = ltb-false _ _ (h .0); accepted = h .1; table = ap (tableBy (holds K) t) (f .1) }
+
+-- as many items as it says
+pub read-count : {K : TagSet} {p t : List ℕ} {done : Filled} (r : HasRead K p t done) → length (r .items) ≡ done .count
+read-count r = ap (λ f. f .count) (r .filled)
 
 -- what it has received: the items, of which the table holds the rows
-pub record Received (K : TagSet) (p t : List ℕ) (n : ℕ) : Type 0 where
+pub record Received (K : TagSet) (p t : List ℕ) (done : Filled) : Type 0 where
   pub items : List Item
   pub accepted : received K p ≡ given items
-  pub rows : rowsIn 0 n (readTable K p t) ≡ rowsOf (holds K) items
+  pub rows : rowsIn 0 (done .count) (readTable K p t) ≡ rowsOf (holds K) items
 
-pub has-received : (K : TagSet) (p t : List ℕ) (n : ℕ) → readAnswer K p t ≡ given n → Received K p t n
+pub has-received : (K : TagSet) (p t : List ℕ) (done : Filled) → readAnswer K p t ≡ given done → Received K p t done
 unfolding received
-has-received K p t n e =
-    let r = has-read K p t n e in
+has-received K p t done e =
+    let r = has-read K p t done e in
     record {
       items = r .items;
       accepted = rw (r .right, r .accepted);
-      rows = rw (r .table) (rows-in-table (holds K) (r .items) t n (r .count));
+      rows = rw (r .table) (rows-in-table (holds K) (r .items) t (done .count) (read-count r));
     }
+
+-- a map that gives nothing was given nothing
+map-refused : {A B : Type 0} (f : A → B) (a : Answer A) (n p t : ℕ) → map f a ≡ refused n p t → a ≡ refused n p t
+map-refused f (given x) n p t e = never (cc)
+map-refused f (refused m b v) n p t e = cc
 
 -- with a table that is long enough its refusal is the one of a receiver that is lent none
 pub received-refused : (K : TagSet) (p t : List ℕ) → 512 ≤ length t → (n a u : ℕ) → readAnswer K p t ≡ refused n a u → received K p ≡ refused n a u
 unfolding readAnswer lentVerdict received
-received-refused K p t long n a u e = go (received K p) (rw (le-ltb (length t) 512 long) at e)
-  where
-    go : (x : Answer (List Item)) → counted x ≡ refused n a u → x ≡ refused n a u
-    go (given is) f = never (cc)
-    go (refused m b v) f = cc
+received-refused K p t long n a u e = map-refused filledBy (received K p) n a u (rw (le-ltb (length t) 512 long) at e)
 
 -- a good set and a table of at least 512 words
 module _ (K : TagSet) (p t : List ℕ) (g : good K ≡ true) (long : 512 ≤ length t) where
@@ -136,7 +138,7 @@ module _ (K : TagSet) (p t : List ℕ) (g : good K ≡ true) (long : 512 ≤ len
   unfolding lentVerdict
   lent-verdict = rw (g, le-ltb (length t) 512 long)
 
-  answer-given : (is : List Item) → verdict (holds K) p ≡ given is → readAnswer K p t ≡ given (length is)
+  answer-given : (is : List Item) → verdict (holds K) p ≡ given is → readAnswer K p t ≡ given (filledBy is)
   unfolding readAnswer
   answer-given is e = rw (lent-verdict, e)
 
@@ -145,20 +147,19 @@ module _ (K : TagSet) (p t : List ℕ) (g : good K ≡ true) (long : 512 ≤ len
   table-given is e = rw (lent-verdict, e)
 
   -- who has a good set and a table of at least 512 words reads every packet that is allowed
-  pub allowed-read : (is : List Item) → Allowed (holds K) p is → (readAnswer K p t ≡ given (length is)) × (readTable K p t ≡ tableOf (holds K) is t)
+  pub allowed-read : (is : List Item) → Allowed (holds K) p is → (readAnswer K p t ≡ given (filledBy is)) × (readTable K p t ≡ tableOf (holds K) is t)
   allowed-read is a = let e = allowed-accepted (holds K) p is a in (answer-given is e, table-given is e)
 
   answer-refused : (n a u : ℕ) → readAnswer K p t ≡ refused n a u → verdict (holds K) p ≡ refused n a u
   unfolding readAnswer
-  answer-refused n a u e = go (verdict (holds K) p) (rw lent-verdict at e)
-    where
-      go : (x : Answer (List Item)) → counted x ≡ refused n a u → x ≡ refused n a u
-      go (given is) f = never (cc)
-      go (refused m b v) f = cc
+  answer-refused n a u e = map-refused filledBy (verdict (holds K) p) n a u (rw lent-verdict at e)
 
 -- who answers a count reads what is allowed
-pub read-allowed : (K : TagSet) (p t : List ℕ) (n : ℕ) → Bytes p → readAnswer K p t ≡ given n → (is : List Item) × (length is ≡ n) × Allowed (holds K) p is
-read-allowed K p t n by e = let r = has-read K p t n e in (r .items, r .count, accepted-allowed (holds K) p (r .items) by (r .accepted))
+pub read-allowed : (K : TagSet) (p t : List ℕ) (done : Filled) → Bytes p → readAnswer K p t ≡ given done
+    → (is : List Item) × (filledBy is ≡ done) × Allowed (holds K) p is
+read-allowed K p t done by e =
+    let r = has-read K p t done e in
+    (r .items, r .filled, accepted-allowed (holds K) p (r .items) by (r .accepted))
 
 -- the row that K gives, beside the row that K′ gives to the same item
 pub record SmallerRow (K : Knowing) (r r′ : Row) : Type 0 where
@@ -168,26 +169,28 @@ pub record SmallerRow (K : Knowing) (r r′ : Row) : Type 0 where
 -- two good sets, one included in the other, and two tables of at least 512 words
 module _ (K K′ : TagSet) (g : good K ≡ true) (g′ : good K′ ≡ true) (within : Included K K′)
     (p t t′ : List ℕ) (long : 512 ≤ length t) (long′ : 512 ≤ length t′) where
-  smaller : (n : ℕ) (r : HasRead K′ p t′ n) → verdict (holds K) p ≡ given (r .items)
-  smaller n r = larger-accepts (holds K) (holds K′) (within .each) p (r .items) (r .accepted)
+  smaller : (done : Filled) (r : HasRead K′ p t′ done) → verdict (holds K) p ≡ given (r .items)
+  smaller done r = larger-accepts (holds K) (holds K′) (within .each) p (r .items) (r .accepted)
 
   -- a packet that the larger accepts the smaller accepts, with as many rows
-  pub read-larger : (n : ℕ) → readAnswer K′ p t′ ≡ given n → readAnswer K p t ≡ given n
-  read-larger n e = let r = has-read K′ p t′ n e in answer-given K p t g long (r .items) (smaller n r) ∙ ap given (r .count)
+  pub read-larger : (done : Filled) → readAnswer K′ p t′ ≡ given done → readAnswer K p t ≡ given done
+  read-larger done e =
+      let r = has-read K′ p t′ done e in
+      answer-given K p t g long (r .items) (smaller done r) ∙ ap given (r .filled)
 
   -- the same row for every item whose tag the smaller knows, a carried one with the same place and length for every other
-  pub read-rows : (n k : ℕ) → readAnswer K′ p t′ ≡ given n → k < n → SmallerRow (holds K) (rowAt (readTable K p t) k) (rowAt (readTable K′ p t′) k)
+  pub read-rows : (done : Filled) (k : ℕ) → readAnswer K′ p t′ ≡ given done → k < done .count → SmallerRow (holds K) (rowAt (readTable K p t) k) (rowAt (readTable K′ p t′) k)
   unfolding rowOf
-  read-rows n k e h =
-      let r = has-read K′ p t′ n e in
+  read-rows done k e h =
+      let r = has-read K′ p t′ done e in
       let is : List Item = r .items in
-      let l : k < length is = omega (arith, r .count) in
+      let l : k < length is = omega (arith, read-count r) in
       let i : Item = itemIn is k in
-      rw (table-given K p t g long is (smaller n r), r .table, row-in-table (holds K) is t k l, row-in-table (holds K′) is t′ k l)
+      rw (table-given K p t g long is (smaller done r), r .table, row-in-table (holds K) is t k l, row-in-table (holds K′) is t′ k l)
       (record { known = known-row (holds K) (holds K′) i (within .each); unknown = unknown-row (holds K) (holds K′) i })
 
   -- where only the larger refuses, it does so at a tag that only it knows
-  pub read-only : (n m a u : ℕ) → readAnswer K p t ≡ given n → readAnswer K′ p t′ ≡ refused m a u → Only (holds K) (holds K′) u
-  read-only n m a u e f =
-      let r = has-read K p t n e in
+  pub read-only : (done : Filled) (m a u : ℕ) → readAnswer K p t ≡ given done → readAnswer K′ p t′ ≡ refused m a u → Only (holds K) (holds K′) u
+  read-only done m a u e f =
+      let r = has-read K p t done e in
       larger-refuses (holds K) (holds K′) (within .each) p (r .items) m a u (r .accepted) (answer-refused K′ p t′ g′ long′ m a u f)

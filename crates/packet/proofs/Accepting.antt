@@ -8,57 +8,56 @@ use mathlib.Core.List.{List, [], _∷_}
 use lib.Dec.{ltb, eqb}
 use lib.ListN.{length, take, drop}
 use borrow.Author.Tests.{ltb-true, ltb-false}
-use Rattle.base.specs.Cases.{byBool}
-use Rattle.refusal.specs.Answer.{Answer, given, refused}
-use Rattle.number.specs.Stored.{Bytes, valueOf}
-use Rattle.checksum.specs.Sum.{checksumOf}
+use Rattle.base.specs.Cases.{byBool, byLt}
+use Rattle.refusal.specs.Answer.{Answer, given, refused, then}
+use Rattle.refusal.proofs.Answers.{not-given, given-same, passed, then-given}
+use Rattle.number.specs.Stored.{Bytes}
 use Rattle.tagset.specs.Sets.{holds}
 use Rattle.tagset.specs.declared.TagSet.{TagSet}
 use Rattle.knowing.specs.Good.{good}
 use Rattle.catalogue.specs.Shapes.{shapeOf, shapeAllows}
 use Rattle.packet.specs.Pieces.{Piece, Item, pieces, Step, noTag, noLength, one, readItem, before, itemAt, onward, walk}
-use Rattle.packet.specs.Structure.{lastOf, isChecksum, lastly, ends, structure}
-use Rattle.packet.specs.Judge.{Knowing, Fault, clean, wrong, faultOf, Judged, fine, faulty, noVersion, later, onFault, judgeFrom, judge}
+use Rattle.packet.specs.Ends.{rightEnds}
+use Rattle.packet.specs.Structure.{frame, endsOf, lastSum, closed, structure}
+use Rattle.packet.specs.Judge.{Knowing, among, Fault, clean, wrong, faultOf, Judged, fine, faulty, noVersion, later, onFault, judgeFrom, judge}
 use Rattle.packet.specs.Verdict.{startOf, placed, judged, verdict, received}
-use Rattle.packet.specs.Concluded.{framedAt}
-use Rattle.packet.proofs.Frames.{too-long, fromThere, structure-from}
+use Rattle.packet.proofs.Frames.{too-long}
 use Rattle.packet.proofs.Tallies.{walked, first-start}
 
-pub unaccepted {ℓ} : {C : Type ℓ} {A : Type 0} {x : A} {n p t : ℕ} → refused n p t ≡ given x → C
-unaccepted e = let z : _≡_ {A = ℕ} 0 1 = cc in absurd (omega arith)
+-- where the items begin, once they are found and closed
+module _ (p : List ℕ) (by : Bytes p) where
+  closed-given : (js is : List Item) → closed p js ≡ given is → (js ≡ is) × (rightEnds (endsOf p is) ≡ given tt)
+  closed-given js is e =
+      let a = then-given (rightEnds (endsOf p js)) _ e in
+      let b = then-given (lastSum p js) _ (a .second) in
+      let f : js ≡ is = given-same (b .second) in
+      (f, ap (λ x. rightEnds (endsOf p x)) (sym f) ∙ a .first)
 
--- a test that lets the items through
-let-through : (b : Bool) (x : Answer (List Item)) (n a t : ℕ) (is : List Item) → cond b x (refused n a t) ≡ given is → x ≡ given is
-let-through true x n a t is e = e
-let-through false x n a t is e = unaccepted e
+  from-first : (from : ℕ) (is : List Item) → walk 128 from (drop from p) ≡ given is → rightEnds (endsOf p is) ≡ given tt
+      → walk 128 (startOf 0 is) (drop (startOf 0 is) p) ≡ given is
+  unfolding rightEnds
+  from-first from [] w e = not-given e
+  from-first from (i ∷ is) w e = ap (λ at. walk 128 at (drop at p)) (first-start p i is (walked p by 128 from (i ∷ is) w)) ∙ w
 
-last-given : (p : List ℕ) (z : Item) (js is : List Item) → lastly p z js ≡ given is → given js ≡ given is
-unfolding lastly
-last-given p z js is e = let-through (eqb (valueOf (z .piece .value)) (checksumOf (take (z .place) p))) (given js) 11 (z .place) 1 is (let-through (isChecksum (z .piece)) _ _ _ _ is e)
+  pub structure-walk : (is : List Item) → structure p ≡ given is → walk 128 (startOf 0 is) (drop (startOf 0 is) p) ≡ given is
+  unfolding structure
+  structure-walk is e =
+      let a = then-given (frame p) _ e in
+      let b = then-given (walk 128 (a .between) (drop (a .between) p)) (closed p) (a .second) in
+      let c = closed-given (b .between) is (b .second) in
+      from-first (a .between) is (b .first ∙ ap given (c .0)) (c .1)
 
-ends-given : (p : List ℕ) (a : Answer (List Item)) (is : List Item) → ends p a ≡ given is → a ≡ given is
-unfolding ends
-ends-given p (given []) is e = unaccepted e
-ends-given p (given (j ∷ js)) is e = last-given p (lastOf j js) (j ∷ js) is (let-through (eqb (j .piece .tag) 2) _ _ _ _ is e)
-ends-given p (refused n a t) is e = unaccepted e
-
-some-item : (p : List ℕ) → ends p (given []) ≡ given [] → ⊥
-unfolding ends
-some-item p e = unaccepted e
-
--- where the items begin
-from-given : (p : List ℕ) → Bytes p → (a : Answer ℕ) (is : List Item) → fromThere p a ≡ given is → walk 128 (startOf 0 is) (drop (startOf 0 is) p) ≡ given is
-from-given p by (refused n a t) is e = unaccepted e
-from-given p by (given from) is e = by-items is (ends-given p (walk 128 from (drop from p)) is e) e
-  where
-    by-items : (is : List Item) → walk 128 from (drop from p) ≡ given is → ends p (walk 128 from (drop from p)) ≡ given is → walk 128 (startOf 0 is) (drop (startOf 0 is) p) ≡ given is
-    by-items [] w e = absurd (some-item p (ap (ends p) (sym w) ∙ e))
-    by-items (i ∷ is) w e = ap (λ at. walk 128 at (drop at p)) (first-start p i is (walked p by 128 from (i ∷ is) w)) ∙ w
+structure-short : (p : List ℕ) (is : List Item) → structure p ≡ given is → length p ≤ 8192
+unfolding structure
+structure-short p is e =
+    byLt 8192 (length p)
+    (λ h. not-given (ap (λ a. then a (λ from. then (walk 128 from (drop from p)) (closed p))) (sym (too-long p h)) ∙ e))
+    (λ h. h)
 
 placed-given : (js is : List Item) (j : Judged) → placed js j ≡ given is → (js ≡ is) × (j ≡ fine)
-placed-given js is fine e = (cc, refl)
-placed-given js is (faulty k n t) e = unaccepted e
-placed-given js is noVersion e = unaccepted e
+placed-given js is fine e = (given-same e, refl)
+placed-given js is (faulty k n t) e = not-given e
+placed-given js is noVersion e = not-given e
 
 pub record Accepting (K : TagSet) (p : List ℕ) (is : List Item) : Type 0 where
   pub known : good K ≡ true
@@ -66,31 +65,26 @@ pub record Accepting (K : TagSet) (p : List ℕ) (is : List Item) : Type 0 where
   pub fills : walk 128 (startOf 0 is) (drop (startOf 0 is) p) ≡ given is
   pub clean : judge (holds K) (pieces is) ≡ fine
 
-accepting-from : (K : TagSet) (p : List ℕ) (is : List Item) → Bytes p → good K ≡ true → (a : Answer (List Item)) → structure p ≡ a → judged (holds K) a ≡ given is → Accepting K p is
-accepting-from K p is by g (refused n a t) s e = unaccepted e
-accepting-from K p is by g (given js) s e =
-    let q = placed-given js is (judge (holds K) (pieces js)) e in
-    let f : fromThere p (framedAt p) ≡ given is = sym (structure-from p) ∙ (s ∙ ap given (q .0)) in
-    record {
-      known = g;
-      short = byBool (ltb 8192 (length p)) (λ b. unaccepted (ap (fromThere p) (sym (too-long p (ltb-true 8192 (length p) b))) ∙ f)) (λ b. ltb-false 8192 (length p) b);
-      fills = from-given p by (framedAt p) is f;
-      clean = ap (λ x. judge (holds K) (pieces x)) (sym (q .0)) ∙ q .1;
-    }
-
 pub accepting : (K : TagSet) (p : List ℕ) (is : List Item) → Bytes p → received K p ≡ given is → Accepting K p is
 unfolding received verdict
 accepting K p is by e =
-    byBool (good K)
-    (λ g. accepting-from K p is by g (structure p) refl (rw g at e))
-    (λ g. unaccepted (rw g at e))
+    let g = passed (good K) _ 1 0 0 e in
+    let v = then-given (structure p) (judged (holds K)) (g .1) in
+    let q = placed-given (v .between) is (judge (holds K) (pieces (v .between))) (v .second) in
+    let found : structure p ≡ given is = v .first ∙ ap given (q .0) in
+    record {
+      known = g .0;
+      short = structure-short p is found;
+      fills = structure-walk p by is found;
+      clean = ap (λ x. judge (holds K) (pieces x)) (sym (q .0)) ∙ q .1;
+    }
 
 -- each known item has an allowed length
 pub data AllFit (K : Knowing) : List Item → Type 0 where
   noneFits : AllFit K []
   oneFits : {i : Item} {is : List Item} → (K (i .piece .tag) ≡ true → shapeAllows (shapeOf (i .piece .tag)) (length (i .piece .value)) ≡ true) → AllFit K is → AllFit K (i ∷ is)
 
-allows-if-clean : (K : Knowing) (seen : List ℕ) (c : Piece) → faultOf K seen c ≡ clean → K (c .tag) ≡ true → shapeAllows (shapeOf (c .tag)) (length (c .value)) ≡ true
+allows-if-clean : (K seen : Knowing) (c : Piece) → faultOf K seen c ≡ clean → K (c .tag) ≡ true → shapeAllows (shapeOf (c .tag)) (length (c .value)) ≡ true
 unfolding faultOf
 allows-if-clean K seen c e k =
     let f = rw k at e in
@@ -110,18 +104,18 @@ pub fine-fit : (K : Knowing) (seen : List ℕ) (is : List Item) → judgeFrom K 
 unfolding judgeFrom
 fine-fit K seen [] e = noneFits
 fine-fit K seen (i ∷ is) e =
-    let q = clean-first (faultOf K seen (i .piece)) (i .piece .tag) (judgeFrom K (i .piece .tag ∷ seen) (pieces is)) e in
-    oneFits (allows-if-clean K seen (i .piece) (q .0)) (fine-fit K (i .piece .tag ∷ seen) is (q .1))
+    let q = clean-first (faultOf K (among seen) (i .piece)) (i .piece .tag) (judgeFrom K (i .piece .tag ∷ seen) (pieces is)) e in
+    oneFits (allows-if-clean K (among seen) (i .piece) (q .0)) (fine-fit K (i .piece .tag ∷ seen) is (q .1))
 
 -- a walk of at most n items finds no more
 few-before : (i : Item) (n : ℕ) (w : Answer (List Item)) (is : List Item) → ((js : List Item) → w ≡ given js → length js ≤ n) → before i w ≡ given is → length is ≤ suc n
 few-before i n (given js) is h e = let f : i ∷ js ≡ is = cc in rw (← f) (omega (arith, h js refl))
-few-before i n (refused r a t) is h e = unaccepted e
+few-before i n (refused r a t) is h e = not-given e
 
 few-onward : (n at : ℕ) (l : List ℕ) (s : Step) (is : List Item) → ((a : ℕ) (r : List ℕ) (js : List Item) → walk n a r ≡ given js → length js ≤ n)
     → onward (λ a r. walk n a r) at l s ≡ given is → length is ≤ suc n
-few-onward n at l noTag is h e = unaccepted e
-few-onward n at l (noLength t) is h e = unaccepted e
+few-onward n at l noTag is h e = not-given e
+few-onward n at l (noLength t) is h e = not-given e
 few-onward n at l (one t k m) is h e =
     few-before (itemAt at l t k m) n (walk n (at + (k + m)) (drop (k + m) l)) is (λ js f. h (at + (k + m)) (drop (k + m) l) js f) e
 
@@ -130,7 +124,7 @@ none-few n is e = let f : [] ≡ is = cc in rw (← f) (omega arith)
 
 pub walk-few : (n at : ℕ) (l : List ℕ) (is : List Item) → walk n at l ≡ given is → length is ≤ n
 unfolding walk
-walk-few zero at l is e = byBool (ltb 0 (length l)) (λ b. unaccepted (rw b at e)) (λ b. none-few 0 is (rw b at e))
+walk-few zero at l is e = byBool (ltb 0 (length l)) (λ b. not-given (rw b at e)) (λ b. none-few 0 is (rw b at e))
 walk-few (suc n) at l is e =
     byBool (ltb 0 (length l))
     (λ b. few-onward n at l (readItem l) is (λ a r js f. walk-few n a r js f) (rw b at e))

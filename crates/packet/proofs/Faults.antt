@@ -18,7 +18,7 @@ use Rattle.catalogue.specs.Shapes.{shapeOf, shapeAllows, codesLimited, codeAllo
 use Rattle.catalogue.specs.declared.Shape.{Shape}
 use Rattle.catalogue.proofs.Columns.{codes-free}
 use Rattle.packet.specs.Pieces.{Item}
-use Rattle.packet.specs.Judge.{Fault, clean, wrong, shapeFault}
+use Rattle.packet.specs.Judge.{Fault, clean, faultBy, looked, faultOf}
 use Rattle.packet.specs.Headers.{itemBy}
 use Rattle.packet.specs.Tally.{Met, none, met, faultIn, plainIn, firstFault}
 use Rattle.packet.specs.declared.Header.{Header}
@@ -32,11 +32,11 @@ module _ (n x : ℕ) (twice : Bool) (fits : x < 256 ^ n) where
   one-byte : n ≡ 1 → x % 2 ^ 64 ≡ x
   one-byte e = let f : x < 256 ^ 1 = rw e at fits in omega arith
 
-  limited : (t : ℕ) → shapeOf t ≡ shapeOf 34 → shapeFault (shapeOf t) t n twice (x % 2 ^ 64) ≡ shapeFault (shapeOf t) t n twice x
+  limited : (t : ℕ) → shapeOf t ≡ shapeOf 34 → faultBy (looked t n (x % 2 ^ 64) twice) ≡ faultBy (looked t n x twice)
   unfolding shapeOf itemOf itemIn member groups
   limited t e = rw e (byEq n 1 (λ h. rw (one-byte h)) (λ h. rw (ne-eqb n 1 h)))
 
-  pub code-wraps : (t : ℕ) → shapeFault (shapeOf t) t n twice (x % 2 ^ 64) ≡ shapeFault (shapeOf t) t n twice x
+  pub code-wraps : (t : ℕ) → faultBy (looked t n (x % 2 ^ 64) twice) ≡ faultBy (looked t n x twice)
   unfolding codeAllowed
   code-wraps t =
       byEq t 34 (λ e. limited t (ap shapeOf e))
@@ -49,13 +49,13 @@ not-true false e = refl
 
 module _ (K seen : TagSet) where
   pub fault-unknown : (i : Item) → holds K (i .piece .tag) ≡ false → clean ≡ faultIn K seen i
-  unfolding faultIn
+  unfolding faultOf
   fault-unknown i e = rw e
 
   pub fault-known : (p : List ℕ) (h : Header) → Bytes p → h .place + h .size ≤ length p → holds K (h .tag) ≡ true
-      → shapeFault (shapeOf (h .tag)) (h .tag) (h .size) (holds seen (h .tag)) (valueOf (take (h .size) (drop (h .place) p)) % 2 ^ 64)
+      → faultBy (looked (h .tag) (h .size) (valueOf (take (h .size) (drop (h .place) p)) % 2 ^ 64) (holds seen (h .tag)))
       ≡ faultIn K seen (itemBy p h)
-  unfolding faultIn
+  unfolding faultOf
   fault-known p h by inside e =
       let v : List ℕ = take (h .size) (drop (h .place) p) in
       let l : length v ≡ h .size = rw (length-take, length-drop) (omega arith) in
@@ -64,11 +64,11 @@ module _ (K seen : TagSet) where
 
   -- an item that takes every code: its code does not matter
   pub fault-free : (p : List ℕ) (h : Header) → h .place + h .size ≤ length p → holds K (h .tag) ≡ true → codesLimited (h .tag) ≡ false
-      → shapeFault (shapeOf (h .tag)) (h .tag) (h .size) (holds seen (h .tag)) 0 ≡ faultIn K seen (itemBy p h)
-  unfolding faultIn
+      → faultBy (looked (h .tag) (h .size) 0 (holds seen (h .tag))) ≡ faultIn K seen (itemBy p h)
+  unfolding faultOf
   fault-free p h inside e free =
       let l : length (take (h .size) (drop (h .place) p)) ≡ h .size = rw (length-take, length-drop) (omega arith) in
-      rw (e, l, codes-free (h .tag) 0 free, codes-free (h .tag) (valueOf (take (h .size) (drop (h .place) p))) free)
+      rw (e, l, codes-free (h .tag) (h .size) 0 free, codes-free (h .tag) (h .size) (valueOf (take (h .size) (drop (h .place) p))) free)
 
   -- clean at a glance
   pub plain-clean : (p : List ℕ) (h : Header) → h .place + h .size ≤ length p → plainIn K seen (h .tag) (h .size) ≡ true → clean ≡ faultIn K seen (itemBy p h)
@@ -80,13 +80,15 @@ module _ (K seen : TagSet) where
       let g = both-right (not (holds seen (h .tag))) _ f in
       let first = not-true (holds seen (h .tag)) (both-left (not (holds seen (h .tag))) _ f) in
       let free = not-true (codesLimited (h .tag)) (both-left (not (codesLimited (h .tag))) _ g) in
-      rw (both-right (not (codesLimited (h .tag))) _ g, first, codes-free (h .tag) 0 free) at (fault-free p h inside k free))
+      rw (both-right (not (codesLimited (h .tag))) _ g, first, codes-free (h .tag) (h .size) 0 free) at (fault-free p h inside k free))
       (λ k. fault-unknown (itemBy p h) k)
 
 -- a fault found by the column's shape and the tags seen
-pub fault-told : {f : Fault} {s s′ : Shape} {twice twice′ : Bool} (t n code : ℕ) → f ≡ shapeFault s t n twice code → s ≡ s′ → twice ≡ twice′
-    → f ≡ shapeFault s′ t n twice′ code
-fault-told t n code e a b = e ∙ ap₂ (λ s twice. shapeFault s t n twice code) a b
+pub fault-told : {f : Fault} {s : Shape} {twice twice′ : Bool} (t n code : ℕ)
+    → f ≡ faultBy (record { shape = s; tag = t; size = n; code = code; twice = twice }) → s ≡ shapeOf t → twice ≡ twice′
+    → f ≡ faultBy (looked t n code twice′)
+fault-told t n code e a b =
+    e ∙ ap₂ (λ s twice. faultBy (record { shape = s; tag = t; size = n; code = code; twice = twice })) a b
 
 -- what is clean leaves the fault met first
 pub clean-stays : (m : Met) (start tag : ℕ) → m ≡ firstFault m clean start tag

@@ -4,30 +4,29 @@ use Prim.Native.Nat.{ℕ, zero, suc, _+_, _%_, _<_, _≤_}
 use native.Mathlib.Omega.{arith}
 use native.Mathlib.Nat.{add-zero, zero-add, div-eq-of-lt}
 use lib.Pow.{pow-pos}
-use mathlib.Core.Path.{_≡_, refl, ap, sym, _∙_}
+use mathlib.Core.Path.{_≡_, refl, ap, ap₂, sym, _∙_}
 use mathlib.Core.Bool.{Bool, true, false, cond}
 use mathlib.Core.List.{List, [], _∷_}
 use lib.Dec.{eqb}
 use lib.ListN.{length, take, drop}
 use borrow.Author.Tests.{eq-eqb, ne-eqb}
 use Rattle.base.specs.Cases.{byBool, byLt, byEq}
-use Rattle.refusal.specs.Answer.{Answer, given, refused}
-use Rattle.number.specs.Stored.{Bytes, valueOf}
-use Rattle.checksum.specs.Sum.{checksumOf}
+use Rattle.refusal.specs.Answer.{Answer, given, refused, map, then}
+use Rattle.number.specs.Stored.{Bytes}
 use Rattle.knowing.specs.Good.{good}
 use Rattle.tagset.specs.Sets.{holds, withTag}
 use Rattle.tagset.specs.declared.TagSet.{TagSet}
 use Rattle.tagset.proofs.Laws.{Words, holds-none, with-words, with-it, with-other}
 use Rattle.packet.specs.Pieces.{Item, pieces, Step, noTag, noLength, one, readItem, before, walk}
-use Rattle.packet.specs.Judge.{has, Fault, clean, wrong, faultOf, Judged, fine, faulty, noVersion, later, onFault, judgeFrom, judge}
-use Rattle.packet.specs.Structure.{lastOf, isChecksum, lastly, ends}
-use Rattle.packet.specs.Verdict.{startOf, placed, judged, accepted, verdict, received, checked}
+use Rattle.packet.specs.Judge.{has, among, Fault, clean, wrong, faultOf, Judged, fine, faulty, noVersion, later, onFault, judgeFrom, judge}
+use Rattle.packet.specs.Ends.{rightEnds}
+use Rattle.packet.specs.Structure.{lastOf, frame, endsOf, rightSum, lastSum, closed, structure}
+use Rattle.packet.specs.Verdict.{startOf, placed, judged, verdict, received, bodyOf, checked}
 use Rattle.packet.specs.Headers.{headerOf, itemBy, headerBy, headerAt}
 use Rattle.packet.specs.Tally.{Tally, none, met, fresh, faultIn, withHeader, tallyFrom, tallied}
-use Rattle.packet.specs.Concluded.{judgement, lastBy, concluded, walkedBy, framedAt}
+use Rattle.packet.specs.Concluded.{judgement, endsBy, sumBy, concluded, walkedBy}
 use Rattle.packet.specs.declared.Header.{Header}
 use Rattle.packet.specs.declared.Accepted.{Accepted}
-use Rattle.packet.proofs.Frames.{fromThere, structure-from}
 use Rattle.packet.proofs.Walks.{walk-end, walk-full, walk-refused, walk-item, header-lies, header-back}
 
 -- the set of tags seen is the list of them, for tags below 128
@@ -52,8 +51,8 @@ one-seen s ts u b =
     }
 
 -- the fault by the set is the fault by the list
-same-fault : (K s : TagSet) (ts : List ℕ) (i : Item) → Words K → SeenBy s ts → faultIn K s i ≡ faultOf (holds K) ts (i .piece)
-unfolding faultIn faultOf
+same-fault : (K s : TagSet) (ts : List ℕ) (i : Item) → Words K → SeenBy s ts → faultIn K s i ≡ faultOf (holds K) (among ts) (i .piece)
+unfolding faultOf
 same-fault K s ts i w b =
     byLt (i .piece .tag) 128
     (λ h. rw (b .each (i .piece .tag) h))
@@ -112,7 +111,7 @@ module _ (K : TagSet) (w : Words K) (from : ℕ) where
       ∙ sym (body-later from (T .count + suc (length is)) i is (judgeFrom (holds K) (t ∷ ts) (pieces is)))) in
       let wrongly : (n : ℕ) → goes (wrong n) = λ n. faulty-first T i is n (T .count + suc (length is)) (judgeFrom (holds K) (t ∷ ts) (pieces is)) e in
       ap (λ f. judgement from (tallyFrom K (next f) is)) (same-fault K (T .seen) ts i w b)
-      ∙ by-fault goes cleanly wrongly (faultOf (holds K) ts (i .piece))
+      ∙ by-fault goes cleanly wrongly (faultOf (holds K) (among ts) (i .piece))
 
 -- the first and the last item
 pub first-stays : (K : TagSet) (T : Tally) (is : List Item) → 0 < T .count → tallyFrom K T is .first ≡ T .first
@@ -185,71 +184,67 @@ unfolding headerAt
 first-start p {at} i is (went h e v) = start-at at (readItem (drop at p)) h e
 
 -- what is left of a verdict where only the first item's place and the count are kept
-body-of : (i : Item) (is : List Item) (j : Judged) → accepted (placed (i ∷ is) j) ≡ bodyBy (i .start) (length (i ∷ is)) (i ∷ is) j
+body-of : (i : Item) (is : List Item) (j : Judged) → map bodyOf (placed (i ∷ is) j) ≡ bodyBy (i .start) (length (i ∷ is)) (i ∷ is) j
 unfolding bodyBy
 body-of i is fine = refl
 body-of i is (faulty k n t) = refl
 body-of i is noVersion = refl
 
 judged-body : (K : TagSet) (i : Item) (is : List Item) → Words K
-    → accepted (judged (holds K) (given (i ∷ is))) ≡ judgement (i .start) (tallyFrom K fresh (i ∷ is))
+    → map bodyOf (judged (holds K) (i ∷ is)) ≡ judgement (i .start) (tallyFrom K fresh (i ∷ is))
 unfolding judge
 judged-body K i is w =
     let j : Judged = judgeFrom (holds K) [] (pieces (i ∷ is)) in
     body-of i is j
     ∙ sym (judged-items K w (i .start) fresh [] (i ∷ is) refl none-seen ∙ ap (λ n. bodyBy (i .start) n (i ∷ is) j) (zero-add (length (i ∷ is))))
 
-through-cond : (K : TagSet) (b : Bool) (x y : Answer (List Item)) → accepted (judged (holds K) (cond b x y)) ≡ cond b (accepted (judged (holds K) x)) (accepted (judged (holds K) y))
-through-cond K true x y = refl
-through-cond K false x y = refl
+-- where the sum is right too, the items are judged
+abbrev judgedAfter : TagSet → List Item → Answer (Unit {0}) → Answer (Unit {0}) → Answer Accepted
+judgedAfter K is ends sum = map bodyOf (then (then ends (λ _. then sum (λ _. given is))) (judged (holds K)))
+
+judged-after : (K : TagSet) (is : List Item) (ends sum : Answer (Unit {0}))
+    → judgedAfter K is ends sum ≡ then ends (λ _. then sum (λ _. map bodyOf (judged (holds K) is)))
+judged-after K is (given x) (given y) = refl
+judged-after K is (given x) (refused n a t) = refl
+judged-after K is (refused n a t) sum = refl
 
 module _ (K : TagSet) (w : Words K) (p : List ℕ) (by : Bytes p) where
-  -- the last item by its header
-  last-by : (z : Item) (is : List Item) → Within p z → accepted (judged (holds K) (lastly p z is)) ≡ lastBy p (headerOf z) (accepted (judged (holds K) (given is)))
-  unfolding lastly
-  last-by z is v =
-      let l : length (z .piece .value) ≡ v .header .size = ap (λ i. length (i .piece .value)) (v .item) ∙ ap (λ h. h .size) (header-back p (v .header) (v .inside)) in
-      let e : take (length (z .piece .value)) (drop (z .place) p) ≡ z .piece .value =
-      ap (λ n. take n (drop (z .place) p)) l ∙ (ap (λ i. take (v .header .size) (drop (i .place) p)) (v .item) ∙ sym (ap (λ i. i .piece .value) (v .item))) in
-      through-cond K (isChecksum (z .piece)) _ _
-      ∙ ap (λ x. cond (isChecksum (z .piece)) x (refused 10 (z .start) (z .piece .tag)))
-      (through-cond K (eqb (valueOf (z .piece .value)) (checksumOf (take (z .place) p))) _ _
-      ∙ ap (λ u. cond (eqb (valueOf u) (checksumOf (take (z .place) p))) (accepted (judged (holds K) (given is))) (refused 11 (z .place) 1)) (sym e))
+  -- the value of an item that lies in the packet, by its header
+  value-within : (z : Item) → Within p z → z .piece .value ≡ take (length (z .piece .value)) (drop (z .place) p)
+  value-within z v =
+      let l : length (z .piece .value) ≡ v .header .size =
+      ap (λ i. length (i .piece .value)) (v .item) ∙ ap (λ h. h .size) (header-back p (v .header) (v .inside)) in
+      ap (λ i. i .piece .value) (v .item)
+      ∙ sym (ap (λ n. take n (drop (z .place) p)) l ∙ ap (λ i. take (v .header .size) (drop (i .place) p)) (v .item))
 
-  some-items : (from : ℕ) (T : Tally) → (T .count ≡ 0 → ⊥) → concluded p from T ≡ cond (eqb (T .first) 2) (lastBy p (T .last) (judgement from T)) (refused 9 from (T .first))
-  unfolding concluded
-  some-items from T h = rw (ne-eqb (T .count) 0 h)
-
-  no-items : (from : ℕ) → concluded p from (tallyFrom K fresh []) ≡ refused 9 (length p) 0
-  unfolding concluded tallyFrom
-  no-items from = refl
+  -- first and last by the tally
+  ends-tallied : (from : ℕ) (is : List Item) → Walked p from is → endsOf p is ≡ endsBy (length p) from (tallyFrom K fresh is)
+  unfolding tallyFrom
+  ends-tallied from [] v = refl
+  ends-tallied from (i ∷ is) v =
+      let T : Tally = tallyFrom K fresh (i ∷ is) in
+      let some : T .count ≡ 0 → ⊥ = λ e. omega (arith, tally-count K fresh (i ∷ is)) in
+      rw (ne-eqb (T .count) 0 some, tally-first K i is, tally-last K fresh i is, first-start p i is v)
 
   -- the items of a walk, concluded
-  pub concluded-items : (from : ℕ) (is : List Item) → Walked p from is → accepted (judged (holds K) (ends p (given is))) ≡ concluded p from (tallyFrom K fresh is)
-  unfolding ends
-  concluded-items from [] v = sym (no-items from)
+  pub concluded-items : (from : ℕ) (is : List Item) → Walked p from is
+      → map bodyOf (then (closed p is) (judged (holds K))) ≡ concluded p from (tallyFrom K fresh is)
+  unfolding concluded rightEnds tallyFrom
+  concluded-items from [] v = refl
   concluded-items from (i ∷ is) v =
       let T : Tally = tallyFrom K fresh (i ∷ is) in
       let z : Item = lastOf i is in
-      let t : ℕ = i .piece .tag in
-      let some : T .count ≡ 0 → ⊥ = λ e. omega (arith, tally-count K fresh (i ∷ is)) in
-      let start : i .start ≡ from = first-start p i is v in
-      let left : accepted (judged (holds K) (lastly p z (i ∷ is))) ≡ lastBy p (headerOf z) (judgement from T) =
-      last-by z (i ∷ is) (last-within p by i is v)
-      ∙ ap (lastBy p (headerOf z)) (judged-body K i is w ∙ ap (λ a. judgement a T) start) in
-      through-cond K (eqb t 2) (lastly p z (i ∷ is)) (refused 9 (i .start) t)
-      ∙ (ap (λ x. cond (eqb t 2) x (refused 9 (i .start) t)) left
-      ∙ (ap (λ a. cond (eqb t 2) (lastBy p (headerOf z) (judgement from T)) (refused 9 a t)) start
-      ∙ (ap (λ h. cond (eqb t 2) (lastBy p h (judgement from T)) (refused 9 from t)) (sym (tally-last K fresh i is))
-      ∙ (ap (λ u. cond (eqb u 2) (lastBy p (T .last) (judgement from T)) (refused 9 from u)) (sym (tally-first K i is))
-      ∙ sym (some-items from T some)))))
+      let sum : lastSum p (i ∷ is) ≡ sumBy p (T .last) =
+      ap (rightSum p (z .place)) (value-within z (last-within p by i is v)) ∙ ap (sumBy p) (sym (tally-last K fresh i is)) in
+      let body : map bodyOf (judged (holds K) (i ∷ is)) ≡ judgement from T =
+      judged-body K i is w ∙ ap (λ a. judgement a T) (first-start p i is v) in
+      judged-after K (i ∷ is) (rightEnds (endsOf p (i ∷ is))) (lastSum p (i ∷ is))
+      ∙ (ap (λ e. then (rightEnds e) (λ _. then (lastSum p (i ∷ is)) (λ _. map bodyOf (judged (holds K) (i ∷ is))))) (ends-tallied from (i ∷ is) v)
+      ∙ ap₂ (λ s b. then (rightEnds (endsBy (length p) from T)) (λ _. then s (λ _. b))) sum body)
 
   -- and the whole of a walk
-  abbrev pub walkedSaid : ℕ → Answer (List Item) → Answer Accepted
-  walkedSaid from a = accepted (judged (holds K) (ends p a))
-
-  pub walked-concluded : (from : ℕ) (a : Answer (List Item)) → walk 128 from (drop from p) ≡ a → walkedSaid from a ≡ walkedBy p from (tallied K fresh a)
-  unfolding ends
+  pub walked-concluded : (from : ℕ) (a : Answer (List Item)) → walk 128 from (drop from p) ≡ a
+      → map bodyOf (then (then a (closed p)) (judged (holds K))) ≡ walkedBy p from (tallied K fresh a)
   walked-concluded from (given is) e = concluded-items from is (walked p by 128 from is e)
   walked-concluded from (refused n a t) e = refl
 
@@ -267,16 +262,15 @@ module _ (K : TagSet) (w : Words K) (p : List ℕ) (by : Bytes p) where
 
   -- the check, put together
   abbrev pub checkedBy : Answer ℕ → Answer Accepted
-  checkedBy (given from) = walkedBy p from (tallied K fresh (walk 128 from (drop from p)))
-  checkedBy (refused n a t) = refused n a t
+  checkedBy a = then a (λ from. walkedBy p from (tallied K fresh (walk 128 from (drop from p))))
 
-  by-frame : (a : Answer ℕ) → accepted (judged (holds K) (fromThere p a)) ≡ checkedBy a
+  by-frame : (a : Answer ℕ) → map bodyOf (then (then a (λ from. then (walk 128 from (drop from p)) (closed p))) (judged (holds K))) ≡ checkedBy a
   by-frame (given from) = walked-concluded from (walk 128 from (drop from p)) refl
   by-frame (refused n a t) = refl
 
-  pub check-good : good K ≡ true → checked K p ≡ checkedBy (framedAt p)
-  unfolding checked received verdict
-  check-good e = rw (e, structure-from p) (by-frame (framedAt p))
+  pub check-good : good K ≡ true → checked K p ≡ checkedBy (frame p)
+  unfolding checked received verdict structure
+  check-good e = rw e (by-frame (frame p))
 
 pub check-not-good : (K : TagSet) (p : List ℕ) → good K ≡ false → checked K p ≡ refused 1 0 0
 unfolding checked received

@@ -3,7 +3,7 @@
 use Prim.Native.Nat.{ℕ, _-_}
 use mathlib.Core.List.{List, [], _∷_, _++_}
 use lib.ListN.{length, take}
-use Rattle.refusal.specs.Answer.{Answer, given, refused}
+use Rattle.refusal.specs.Answer.{Answer, orElse}
 use Rattle.number.specs.Stored.{bytesOf}
 use Rattle.ber.specs.Written.{tagBytes, lengthBytes}
 use Rattle.checksum.specs.Sum.{checksumOf}
@@ -35,8 +35,7 @@ encode cs = summed (unsummed cs)
 
 -- the pieces of the items that are given
 abbrev pub piecesIn : Answer (List Item) → List Piece
-piecesIn (given is) = pieces is
-piecesIn (refused n p t) = []
+piecesIn = orElse [] pieces
 
 -- a packet as it is sent on: its pieces, written
 unfoldable pub canonical : List ℕ → List ℕ

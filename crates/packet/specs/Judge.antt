@@ -7,8 +7,8 @@ use lib.ListN.{length}
 use lib.Dec.{eqb}
 use Rattle.number.specs.Stored.{valueOf}
 use Rattle.catalogue.specs.Shapes.{shapeOf, shapeAllows, codeAllowed}
-use Rattle.catalogue.specs.declared.Shape.{Shape}
 use Rattle.packet.specs.Pieces.{Piece}
+use Rattle.packet.specs.declared.Looked.{Looked}
 
 -- the tags that a receiver knows
 abbrev pub Knowing : Type 0
@@ -18,18 +18,28 @@ abbrev pub has : ℕ → List ℕ → Bool
 has t [] = false
 has t (u ∷ us) = eqb t u || has t us
 
+-- the tags of a list
+abbrev pub among : List ℕ → Knowing
+among ts t = has t ts
+
 pub data Fault : Type 0 where
   clean : Fault
   wrong : (number : ℕ) → Fault
 
--- a known item of a shape: its tag, its length, whether the tag came before, its code
-abbrev pub shapeFault : Shape → ℕ → ℕ → Bool → ℕ → Fault
-shapeFault shape tag size twice code =
-    cond (shapeAllows shape size) (cond twice (wrong 13) (cond (codeAllowed tag code) clean (wrong 14))) (wrong 12)
+-- the one rule of a known item, by what is looked at in it
+abbrev pub faultBy : Looked → Fault
+faultBy l =
+    cond (shapeAllows (l .shape) (l .size))
+    (cond (l .twice) (wrong 13) (cond (codeAllowed (l .tag) (l .size) (l .code)) clean (wrong 14)))
+    (wrong 12)
 
-unfoldable pub faultOf : Knowing → List ℕ → Piece → Fault
-faultOf K seen c =
-    cond (K (c .tag)) (shapeFault (shapeOf (c .tag)) (c .tag) (length (c .value)) (has (c .tag) seen) (valueOf (c .value))) clean
+-- what is looked at in an item: its tag, its value's length and code, and whether its tag came before
+abbrev pub looked : ℕ → ℕ → ℕ → Bool → Looked
+looked tag size code twice = record { shape = shapeOf tag; tag = tag; size = size; code = code; twice = twice }
+
+-- an item that is not known is no fault; `seen` says which tags came before
+unfoldable pub faultOf : Knowing → Knowing → Piece → Fault
+faultOf K seen c = cond (K (c .tag)) (faultBy (looked (c .tag) (length (c .value)) (valueOf (c .value)) (seen (c .tag)))) clean
 
 -- no fault; the index, number and tag of the first; or no item 65
 pub data Judged : Type 0 where
@@ -49,7 +59,7 @@ onFault (wrong n) t j = faulty zero n t
 -- the tags seen so far are those of the items before
 unfoldable pub judgeFrom : Knowing → List ℕ → List Piece → Judged
 judgeFrom K seen [] = cond (has 65 seen) fine noVersion
-judgeFrom K seen (c ∷ cs) = onFault (faultOf K seen c) (c .tag) (judgeFrom K (c .tag ∷ seen) cs)
+judgeFrom K seen (c ∷ cs) = onFault (faultOf K (among seen) c) (c .tag) (judgeFrom K (c .tag ∷ seen) cs)
 
 unfoldable pub judge : Knowing → List Piece → Judged
 judge K cs = judgeFrom K [] cs

@@ -1,4 +1,5 @@
 pub mod Pieces
+pub mod Ends
 pub mod Structure
 pub mod Judge
 pub mod Verdict

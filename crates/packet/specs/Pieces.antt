@@ -4,7 +4,7 @@ use mathlib.Core.Bool.{cond}
 use mathlib.Core.List.{List, [], _∷_}
 use lib.ListN.{length, take, drop}
 use lib.Dec.{ltb, leb}
-use Rattle.refusal.specs.Answer.{Answer, given, refused}
+use Rattle.refusal.specs.Answer.{Answer, given, refused, map}
 use Rattle.ber.specs.Read.{Read, got, broken, readTag, readLength}
 
 -- what an item means, whoever reads it and wherever it stands
@@ -42,8 +42,7 @@ readItem l = afterTag l (readTag l)
 
 -- an item before the items that follow
 abbrev pub before : Item → Answer (List Item) → Answer (List Item)
-before i (given is) = given (i ∷ is)
-before i (refused n p t) = refused n p t
+before i = map (λ is. i ∷ is)
 
 abbrev pub itemAt : ℕ → List ℕ → ℕ → ℕ → ℕ → Item
 itemAt at l t h n = record { start = at; place = at + h; piece = record { tag = t; value = take n (drop h l) } }

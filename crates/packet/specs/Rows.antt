@@ -1,33 +1,29 @@
 -- Document 01, Rows: "A row is four 64-bit words: tag; kind (1 reading, 2 mark, 3 text, 4 carried); the stored code as an
 -- unsigned number (0 for text and carried); place of the value × 65,536 + its length."
-use Prim.Native.Nat.{ℕ, zero, suc, _+_, _-_, _*_, _<_}
+use Prim.Native.Nat.{ℕ, zero, suc, _+_, _-_, _*_}
 use mathlib.Core.Path.{_≡_}
-use mathlib.Core.Bool.{cond}
+use mathlib.Core.Bool.{false, cond}
 use mathlib.Core.List.{List, [], _∷_, _++_}
 use lib.ListN.{length, take, drop, replicate}
 use lib.Dec.{ltb}
-use Rattle.refusal.specs.Answer.{Answer, given, refused}
+use Rattle.refusal.specs.Answer.{Answer, refused, map, orElse}
 use Rattle.number.specs.Stored.{valueOf, bytesOf}
 use Rattle.tagset.specs.Sets.{holds}
 use Rattle.tagset.specs.declared.TagSet.{TagSet}
 use Rattle.knowing.specs.Good.{good}
 use Rattle.catalogue.specs.declared.Shape.{Shape}
 use Rattle.catalogue.specs.declared.Shape.the-variants.{Text, Number, Absent}
-pub use Rattle.rows.specs.Kinds.{Row, kindIn, codeIn}
-unfoldable pub use Rattle.rows.specs.Kinds.{shapeFor}
-use Rattle.rows.specs.Taken.{spotPlace, spotLength, rowAt}
+pub use Rattle.rows.specs.Meaning.{Row, meaningOf, kindOf, codeOf, isNumber}
+unfoldable pub use Rattle.rows.specs.Meaning.{shapeFor}
+use Rattle.rows.specs.Taken.{spotPlace, spotLength, rowSays, rowAt}
 use Rattle.packet.specs.Pieces.{Piece, Item}
 use Rattle.packet.specs.Judge.{Knowing}
-use Rattle.packet.specs.Verdict.{verdict, counted}
+use Rattle.packet.specs.Verdict.{verdict}
 
 abbrev pub rowBy : Shape → Item → Row
 rowBy shape i =
-    record {
-      tag = i .piece .tag;
-      kind = kindIn shape (valueOf (i .piece .value));
-      code = codeIn shape (valueOf (i .piece .value));
-      spot = i .place * 65536 + length (i .piece .value);
-    }
+    let m = meaningOf shape (i .piece .value) in
+    record { tag = i .piece .tag; kind = kindOf m; code = codeOf m; spot = i .place * 65536 + length (i .piece .value) }
 
 unfoldable pub rowOf : Knowing → Item → Row
 rowOf K i = rowBy (shapeFor K (i .piece .tag)) i
@@ -49,13 +45,19 @@ unfoldable pub lentVerdict : TagSet → List ℕ → List ℕ → Answer (List I
 lentVerdict K p t =
     cond (good K) (cond (ltb (length t) 512) (refused 2 0 0) (verdict (holds K) p)) (refused 1 0 0)
 
-unfoldable pub readAnswer : TagSet → List ℕ → List ℕ → Answer ℕ
-readAnswer K p t = counted (lentVerdict K p t)
+-- the table of an accepted packet: how many rows it has
+pub record Filled : Type 0 where
+  pub count : ℕ
+
+abbrev pub filledBy : List Item → Filled
+filledBy is = record { count = length is }
+
+unfoldable pub readAnswer : TagSet → List ℕ → List ℕ → Answer Filled
+readAnswer K p t = map filledBy (lentVerdict K p t)
 
 -- "An answer of refusal … changes no lent memory."
 abbrev pub tableBy : Knowing → List ℕ → Answer (List Item) → List ℕ
-tableBy K t (given is) = tableOf K is t
-tableBy K t (refused n p g) = t
+tableBy K t = orElse t (λ is. tableOf K is t)
 
 unfoldable pub readTable : TagSet → List ℕ → List ℕ → List ℕ
 readTable K p t = tableBy (holds K) t (lentVerdict K p t)
@@ -89,7 +91,7 @@ pub record SameRow (b c : List ℕ) (r s : Row) : Type 0 where
   pub kind : r .kind ≡ s .kind
   pub code : (r .tag ≡ 1 → ⊥) → r .code ≡ s .code
   pub size : spotLength (r .spot) ≡ spotLength (s .spot)
-  pub value : 2 < r .kind → bytesAt b r ≡ bytesAt c s
+  pub value : isNumber (rowSays r) ≡ false → bytesAt b r ≡ bytesAt c s
 
 pub data SameTable (b c : List ℕ) : List Row → List Row → Type 0 where
   noRows : SameTable b c [] []

@@ -4,11 +4,13 @@ use mathlib.Core.Bool.{Bool, true, false, cond, _&&_}
 use mathlib.Core.List.{List, [], _∷_}
 use lib.ListN.{length, take, drop}
 use lib.Dec.{ltb, eqb}
-use Rattle.refusal.specs.Answer.{Answer, given, refused}
+use Rattle.refusal.specs.Answer.{Answer, given, refused, then}
 use Rattle.number.specs.Stored.{valueOf}
 use Rattle.ber.specs.Read.{Read, got, broken, readLength}
 use Rattle.checksum.specs.Sum.{checksumOf}
-use Rattle.packet.specs.Pieces.{Piece, Item, walk}
+use Rattle.packet.specs.Pieces.{Item, walk}
+use Rattle.packet.specs.Ends.{rightEnds}
+use Rattle.packet.specs.declared.Ends.{Ends}
 
 unfoldable pub key : List ℕ
 key =
@@ -24,28 +26,34 @@ abbrev pub lastOf : Item → List Item → Item
 lastOf i [] = i
 lastOf i (j ∷ js) = lastOf j js
 
--- "the last is tag 1 of length 2"; the checksum runs over every byte before its value
-abbrev pub isChecksum : Piece → Bool
-isChecksum c = eqb (c .tag) 1 && eqb (length (c .value)) 2
+-- 3, 4 and 5, or where the items begin: "The outer length must equal the number of bytes left."
+abbrev pub outerBy : List ℕ → Read → Answer ℕ
+outerBy p broken = refused 5 16 0
+outerBy p (got n s) = cond (eqb (length p) (16 + s + n)) (given (16 + s)) (refused 5 16 0)
 
-unfoldable pub lastly : List ℕ → Item → List Item → Answer (List Item)
-lastly p z is =
-    cond (isChecksum (z .piece))
-    (cond (eqb (valueOf (z .piece .value)) (checksumOf (take (z .place) p))) (given is) (refused 11 (z .place) 1))
-    (refused 10 (z .start) (z .piece .tag))
+unfoldable pub frame : List ℕ → Answer ℕ
+frame p =
+    cond (ltb 8192 (length p)) (refused 3 0 0)
+    (cond (same (take 16 p) key) (outerBy p (readLength (drop 16 p))) (refused 4 0 0))
 
--- "The first item is tag 2"
-unfoldable pub ends : List ℕ → Answer (List Item) → Answer (List Item)
-ends p (refused n a t) = refused n a t
-ends p (given []) = refused 9 (length p) 0
-ends p (given (i ∷ is)) = cond (eqb (i .piece .tag) 2) (lastly p (lastOf i is) (i ∷ is)) (refused 9 (i .start) (i .piece .tag))
+-- 9 and 10: "its start (packet length if absent)"
+abbrev pub endsOf : List ℕ → List Item → Ends
+endsOf p [] = record { start = length p; first = 0; end = 0; last = 0; size = 0 }
+endsOf p (i ∷ is) =
+    let z = lastOf i is in
+    record { start = i .start; first = i .piece .tag; end = z .start; last = z .piece .tag; size = length (z .piece .value) }
 
--- "The outer length must equal the number of bytes left."
-unfoldable pub afterOuter : List ℕ → Read → Answer (List Item)
-afterOuter p broken = refused 5 16 0
-afterOuter p (got n s) = cond (eqb (length p) (16 + s + n)) (ends p (walk 128 (16 + s) (drop (16 + s) p))) (refused 5 16 0)
+-- 11: the checksum runs over every byte before its value
+unfoldable pub rightSum : List ℕ → ℕ → List ℕ → Answer (Unit {0})
+rightSum p place value = cond (eqb (valueOf value) (checksumOf (take place p))) (given tt) (refused 11 place 1)
+
+abbrev pub lastSum : List ℕ → List Item → Answer (Unit {0})
+lastSum p [] = given tt
+lastSum p (i ∷ is) = let z = lastOf i is in rightSum p (z .place) (z .piece .value)
+
+-- the items found from a place on, once first, last and sum are right
+abbrev pub closed : List ℕ → List Item → Answer (List Item)
+closed p is = then (rightEnds (endsOf p is)) (λ _. then (lastSum p is) (λ _. given is))
 
 unfoldable pub structure : List ℕ → Answer (List Item)
-structure p =
-    cond (ltb 8192 (length p)) (refused 3 0 0)
-    (cond (same (take 16 p) key) (afterOuter p (readLength (drop 16 p))) (refused 4 0 0))
+structure p = then (frame p) (λ from. then (walk 128 from (drop from p)) (closed p))

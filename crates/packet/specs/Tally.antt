@@ -2,16 +2,14 @@
 use Prim.Native.Nat.{ℕ, _+_}
 use mathlib.Core.Bool.{Bool, true, cond, not, _&&_}
 use mathlib.Core.List.{List, [], _∷_}
-use lib.ListN.{length}
 use lib.Dec.{eqb}
-use Rattle.refusal.specs.Answer.{Answer, given, refused, refusal}
+use Rattle.refusal.specs.Answer.{Answer, given, refusal, map}
 use Rattle.refusal.specs.Numbers.{number}
-use Rattle.number.specs.Stored.{valueOf}
 use Rattle.tagset.specs.Sets.{holds, withTag}
 use Rattle.tagset.specs.declared.TagSet.{TagSet}
 use Rattle.catalogue.specs.Shapes.{shapeOf, shapeAllows, codesLimited}
 use Rattle.packet.specs.Pieces.{Item}
-use Rattle.packet.specs.Judge.{Fault, clean, wrong, shapeFault}
+use Rattle.packet.specs.Judge.{Fault, clean, wrong, faultOf}
 use Rattle.packet.specs.Headers.{headerOf}
 use Rattle.packet.specs.declared.Header.{Header}
 use Rattle.packet.specs.declared.First.{First}
@@ -44,10 +42,8 @@ fresh =
     }
 
 -- what is wrong with an item for a receiver, by the tags seen
-unfoldable pub faultIn : TagSet → TagSet → Item → Fault
-faultIn K seen i =
-    let c = i .piece in
-    cond (holds K (c .tag)) (shapeFault (shapeOf (c .tag)) (c .tag) (length (c .value)) (holds seen (c .tag)) (valueOf (c .value))) clean
+abbrev pub faultIn : TagSet → TagSet → Item → Fault
+faultIn K seen i = faultOf (holds K) (holds seen) (i .piece)
 
 -- clean without a look at its value: unknown, or the first of its tag, of a right length, with no limit on its codes
 unfoldable pub plainIn : TagSet → TagSet → ℕ → ℕ → Bool
@@ -74,8 +70,7 @@ tallyFrom K T [] = T
 tallyFrom K T (i ∷ is) = tallyFrom K (withHeader T (headerOf i) (faultIn K (T .seen) i)) is
 
 abbrev pub tallied : TagSet → Tally → Answer (List Item) → Answer Tally
-tallied K T (given is) = given (tallyFrom K T is)
-tallied K T (refused n p t) = refused n p t
+tallied K T = map (tallyFrom K T)
 
 -- what the code's tally says
 abbrev pub firstSaid : First → Met

@@ -3,7 +3,7 @@ use Prim.Native.Nat.{ℕ, zero, suc}
 use mathlib.Core.Bool.{cond}
 use mathlib.Core.List.{List, [], _∷_}
 use lib.ListN.{length}
-use Rattle.refusal.specs.Answer.{Answer, given, refused}
+use Rattle.refusal.specs.Answer.{Answer, given, refused, map, then}
 use Rattle.tagset.specs.Sets.{holds}
 use Rattle.tagset.specs.declared.TagSet.{TagSet}
 use Rattle.knowing.specs.Good.{good}
@@ -23,29 +23,19 @@ placed is fine = given is
 placed is (faulty k n t) = refused n (startOf k is) t
 placed is noVersion = refused 15 0 0
 
-abbrev pub judged : Knowing → Answer (List Item) → Answer (List Item)
-judged K (refused n p t) = refused n p t
-judged K (given is) = placed is (judge K (pieces is))
+abbrev pub judged : Knowing → List Item → Answer (List Item)
+judged K is = placed is (judge K (pieces is))
 
 unfoldable pub verdict : Knowing → List ℕ → Answer (List Item)
-verdict K p = judged K (structure p)
+verdict K p = then (structure p) (judged K)
 
 -- the verdict of a receiver that is lent no table
 unfoldable pub received : TagSet → List ℕ → Answer (List Item)
 received K p = cond (good K) (verdict (holds K) p) (refused 1 0 0)
 
--- how many items there are
-abbrev pub counted : Answer (List Item) → Answer ℕ
-counted (given is) = given (length is)
-counted (refused n p t) = refused n p t
-
 -- where the items begin, and how many there are
 abbrev pub bodyOf : List Item → Accepted
 bodyOf is = record { from = startOf 0 is; count = length is }
 
-abbrev pub accepted : Answer (List Item) → Answer Accepted
-accepted (given is) = given (bodyOf is)
-accepted (refused n p t) = refused n p t
-
 unfoldable pub checked : TagSet → List ℕ → Answer Accepted
-checked K p = accepted (received K p)
+checked K p = map bodyOf (received K p)

@@ -7,12 +7,13 @@ ghost use lib.ListN.{length, take, drop};
 ghost use mathlib.Core.Bool.{cond};
 ghost use Rattle.refusal.specs.Numbers.{number};
 ghost use Rattle.refusal.specs.Answer.{refused as refusedBy};
-ghost use Rattle.packet.specs.Judge.{shapeFault};
+ghost use Rattle.packet.specs.Judge.{faultBy};
 ghost use Rattle.catalogue.specs.Column.{shapeColumn};
 ghost use Rattle.packet.specs.Headers.{itemBy, stepSaid, headerAt, shortForms, faultSaid};
 ghost use Rattle.packet.specs.Pieces.{walk as walkItems};
-ghost use Rattle.packet.specs.Structure.{key, same};
-ghost use Rattle.packet.specs.Concluded.{framedAt, frameSaid, checkSaid, judgement, lastBy, concluded, walkedBy};
+ghost use Rattle.packet.specs.Ends.{rightEnds};
+ghost use Rattle.packet.specs.Structure.{key, same, frame};
+ghost use Rattle.packet.specs.Concluded.{frameSaid, rightSaid, checkSaid, judgement, endsBy, lastBy, concluded, walkedBy};
 ghost use Rattle.packet.specs.Verdict.{checked};
 ghost use Rattle.packet.specs.Tally.{faultIn, plainIn, firstFault, firstSaid, withHeader, fresh, tallied, tallySaid, walkSaid};
 use catalogue::Shape;
@@ -125,15 +126,25 @@ pub enum Fault {
     Wrong(Reason),
 }
 
-// The rule for a known item of a shape, for reader and writer alike: its length, that it stands once, its code.
-pub fn fault_of(shape: Shape, tag: u64, size: usize, twice: bool, code: u64) -> Fault
-    ensures { λ r. ⌜ faultSaid r ≡ shapeFault shape tag size twice code ⌝ }
+// What is looked at in a known item: its shape and tag, the length and the code of its value, whether its tag came before.
+pub struct Looked {
+    pub shape: Shape,
+    pub tag: u64,
+    pub size: usize,
+    pub code: u64,
+    pub twice: bool,
+}
+
+// The rule for a known item, for reader and writer alike: its length, that it stands once, its code.
+pub fn fault_of(item: Looked) -> Fault
+    ensures { λ r. ⌜ faultSaid r ≡ faultBy item ⌝ }
 {
-    if catalogue::allows_length(shape, size) {
-        if twice {
+    let shape = item.shape;
+    if catalogue::allows_length(shape, item.size) {
+        if item.twice {
             return Fault::Wrong(Reason::KnownTagTwice);
         }
-        if catalogue::allows_code(tag, code) {
+        if catalogue::allows_code(item.tag, item.size, item.code) {
             return Fault::Clean;
         }
         return Fault::Wrong(Reason::CodeNotAllowed);
@@ -175,10 +186,22 @@ fn fault_at(packet: &[u8], column: &[u8; 128], known: TagSet, seen: TagSet, item
         if catalogue::limits_codes(tag) {
             let end = place + size;
             let code = number::value(&packet[place..end]);
-            return fault_of(shape, tag, size, twice, code);
+            return fault_of(Looked {
+                shape,
+                tag,
+                size,
+                code,
+                twice,
+            });
         }
         // any code will do
-        return fault_of(shape, tag, size, twice, 0);
+        return fault_of(Looked {
+            shape,
+            tag,
+            size,
+            code: 0,
+            twice,
+        });
     }
     Fault::Clean
 }
@@ -324,7 +347,7 @@ fn unframed(reason: Reason, place: usize) -> Frame
 
 // The key and the outer length.
 fn framed(packet: &[u8]) -> Frame
-    ensures { λ r. ⌜ frameSaid r ≡ framedAt (now (packet .entry)) ⌝ }
+    ensures { λ r. ⌜ frameSaid r ≡ frame (now (packet .entry)) ⌝ }
 {
     if 8192 < packet.len() {
         return unframed(Reason::PacketTooLong, 0);
@@ -379,41 +402,87 @@ fn judged(from: usize, tally: Tally) -> Checked
     }
 }
 
-// The last item, the checksum, and then the receiver's judgement.
-fn ended(packet: &[u8], from: usize, tally: Tally) -> Checked
-    requires { ⌜ tally .last .place + tally .last .size ≤ length (now packet) ⌝ }
-    ensures { λ r. ⌜ checkSaid r ≡ lastBy (now (packet .entry)) (tally .last) (judgement from (tallySaid tally)) ⌝ }
+// The first and the last of the items or rows: where each is said to stand, its tag, and the last one's length.
+pub struct Ends {
+    pub start: usize,
+    pub first: u64,
+    pub end: usize,
+    pub last: u64,
+    pub size: usize,
+}
+
+// Whether something is right, or the refusal.
+pub enum Right {
+    Yes,
+    Refused(Refusal),
+}
+
+// The rule for first and last, for reader and writer alike.
+pub fn check_ends(ends: Ends) -> Right
+    ensures { λ r. ⌜ rightSaid r ≡ rightEnds ends ⌝ }
+{
+    if ends.first == 2 {
+        if ends.last == 1 {
+            if ends.size == 2 {
+                return Right::Yes;
+            }
+        }
+        return Right::Refused(Refusal {
+            reason: Reason::LastNotChecksum,
+            place: ends.end,
+            tag: ends.last,
+        });
+    }
+    Right::Refused(Refusal {
+        reason: Reason::FirstNotTimeStamp,
+        place: ends.start,
+        tag: ends.first,
+    })
+}
+
+// Where there is no item, the first one is said to be absent at the packet's end.
+fn ends_of(bytes: usize, from: usize, tally: Tally) -> Ends
+    ensures { λ r. ⌜ r ≡ endsBy bytes from (tallySaid tally) ⌝ }
+{
+    let last = tally.last;
+    let mut start = from;
+    if tally.count == 0 {
+        start = bytes;
+    }
+    Ends {
+        start,
+        first: tally.first,
+        end: last.start,
+        last: last.tag,
+        size: last.size,
+    }
+}
+
+// The checksum, and then the receiver's judgement.
+fn summed(packet: &[u8], from: usize, tally: Tally) -> Checked
+    requires { ⌜ (tally .last .place + tally .last .size ≤ length (now packet)) × (tally .last .size ≡ 2) ⌝ }
+    ensures { λ r. ⌜ checkSaid r ≡ lastBy (now (packet .entry)) from (tallySaid tally) ⌝ }
 {
     let last = tally.last;
     let place = last.place;
-    let size = last.size;
-    if last.tag == 1 {
-        if size == 2 {
-            let end = place + size;
-            let stored = number::value(&packet[place..end]);
-            let summed = checksum::checksum(&packet[..place]) as u64;
-            if stored == summed {
-                return judged(from, tally);
-            }
-            return refused(Reason::ChecksumDiffers, place, 1);
-        }
+    let end = place + 2;
+    let stored = number::value(&packet[place..end]);
+    let sum = checksum::checksum(&packet[..place]) as u64;
+    if stored == sum {
+        return judged(from, tally);
     }
-    refused(Reason::LastNotChecksum, last.start, last.tag)
+    refused(Reason::ChecksumDiffers, place, 1)
 }
 
-// The first item before that.
+// The first and the last item before that.
 fn conclude(packet: &[u8], from: usize, tally: Tally) -> Checked
     requires { ⌜ tally .last .place + tally .last .size ≤ length (now packet) ⌝ }
     ensures { λ r. ⌜ checkSaid r ≡ concluded (now (packet .entry)) from (tallySaid tally) ⌝ }
 {
-    let first = tally.first;
-    if tally.count == 0 {
-        return refused(Reason::FirstNotTimeStamp, packet.len(), 0);
+    match check_ends(ends_of(packet.len(), from, tally)) {
+        Right::Refused(refusal) => Checked::Refused(refusal),
+        Right::Yes => summed(packet, from, tally),
     }
-    if first == 2 {
-        return ended(packet, from, tally);
-    }
-    refused(Reason::FirstNotTimeStamp, from, first)
 }
 
 // The items, once it is known where they begin.

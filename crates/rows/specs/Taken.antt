@@ -10,7 +10,7 @@ use Rattle.tagset.specs.declared.TagSet.{TagSet}
 use Rattle.knowing.specs.Good.{good}
 use Rattle.catalogue.specs.declared.Shape.{Shape}
 use Rattle.catalogue.specs.declared.Shape.the-variants.{Text, Number, Absent}
-use Rattle.rows.specs.Kinds.{Row, shapeFor, kindIn}
+use Rattle.rows.specs.Meaning.{Meaning, reading, mark, text, carried, Row, shapeFor, kindFor, saidBy}
 use Rattle.rows.specs.declared.Content.{Content}
 use Rattle.rows.specs.declared.Content.the-variants as content
 use Rattle.rows.specs.declared.Part.{Part}
@@ -24,6 +24,14 @@ spotPlace w = w / 65536
 
 abbrev pub spotLength : ℕ → ℕ
 spotLength w = w % 65536
+
+-- where text or carried bytes stand
+abbrev pub partOf : ℕ → Part
+partOf spot = record { place = spotPlace spot; length = spotLength spot }
+
+-- what a row says that its item holds
+abbrev pub rowSays : Row → Meaning Part
+rowSays r = saidBy (r .kind) (r .code) (spotLength (r .spot)) (partOf (r .spot))
 
 -- "its tag is not 1 to 2,097,151"
 abbrev pub tagGood : ℕ → Bool
@@ -44,7 +52,7 @@ contentGood Absent room r = partGood room (r .code) (r .spot)
 
 -- a row that is not bad, for a receiver and a buffer of so many bytes: its kind is the one that this receiver gives the tag and the code
 unfoldable pub rowGood : Shape → ℕ → Row → Bool
-rowGood shape room r = tagGood (r .tag) && (eqb (r .kind) (kindIn shape (r .code)) && contentGood shape room r)
+rowGood shape room r = tagGood (r .tag) && (eqb (r .kind) (kindFor shape (r .code)) && contentGood shape room r)
 
 -- the tag that goes with 17: "its tag if 1 to 2,097,151, else 0"
 abbrev pub tagShown : ℕ → ℕ
@@ -65,17 +73,15 @@ rowAt words n =
     }
 
 -- "its tag beside one of four kinds of content"
-abbrev pub partOf : ℕ → Part
-partOf spot = record { place = spotPlace spot; length = spotLength spot }
-
-abbrev pub contentOf : Shape → Row → Content
-contentOf (Number width marked) r = cond (eqb (r .kind) 2) content.Mark (content.Reading (r .code))
-contentOf Text r = content.Text (partOf (r .spot))
-contentOf Absent r = content.Carried (partOf (r .spot))
+abbrev pub contentOf : Meaning Part → Content
+contentOf (reading code size) = content.Reading code
+contentOf (mark code size) = content.Mark
+contentOf (text part) = content.Text part
+contentOf (carried part) = content.Carried part
 
 abbrev pub rowTaken : Shape → ℕ → ℕ → Row → Answer SingleRow
 rowTaken shape room n r =
-    cond (rowGood shape room r) (given (record { tag = r .tag; content = contentOf shape r })) (refused 17 n (tagShown (r .tag)))
+    cond (rowGood shape room r) (given (record { tag = r .tag; content = contentOf (rowSays r) })) (refused 17 n (tagShown (r .tag)))
 
 -- the row numbered n of count rows: 1, 16, 17, or the row
 unfoldable pub rowTakenAt : TagSet → ℕ → ℕ → ℕ → List ℕ → Answer SingleRow

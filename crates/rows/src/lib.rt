@@ -10,8 +10,8 @@ ghost use mathlib.Core.Bool.{cond};
 ghost use Rattle.tagset.specs.Sets.{holds};
 ghost use Rattle.catalogue.specs.Column.{shapeIn};
 ghost use Rattle.catalogue.specs.declared.Shape.{Shape};
-ghost use Rattle.rows.specs.Kinds.{kindIn, markCode};
-ghost use Rattle.rows.specs.Taken.{rowGood, contentGood, partGood, codeGood, countGood, tagShown, rowAt, partOf, contentOf, rowTaken, rowTakenAt, takenSaid};
+ghost use Rattle.rows.specs.Meaning.{kindFor, markCode};
+ghost use Rattle.rows.specs.Taken.{rowGood, contentGood, partGood, codeGood, countGood, tagShown, rowAt, partOf, rowSays, contentOf, rowTaken, rowTakenAt, takenSaid};
 use catalogue::Shape;
 use refusal::Reason;
 use refusal::Refusal;
@@ -25,20 +25,29 @@ pub struct RowWords {
     pub spot: u64,
 }
 
-// The kind of a value, by its shape and its code: 1 reading, 2 mark, 3 text, 4 carried.
+// Document 01's numbers of the kinds.
+pub const READING: u64 = 1;
+
+pub const MARK: u64 = 2;
+
+pub const TEXT: u64 = 3;
+
+pub const CARRIED: u64 = 4;
+
+// The kind of a value, by its shape and its code.
 pub fn kind_of(shape: Shape, code: u64) -> u64
-    ensures { λ r. ⌜ r ≡ kindIn shape code ⌝ }
+    ensures { λ r. ⌜ r ≡ kindFor shape code ⌝ }
 {
     match shape {
-        Shape::Text => 3,
-        Shape::Absent => 4,
+        Shape::Text => TEXT,
+        Shape::Absent => CARRIED,
         Shape::Number { width, marked } => {
             if marked {
                 if is_mark(width, code) {
-                    return 2;
+                    return MARK;
                 }
             }
-            1
+            READING
         }
     }
 }
@@ -206,22 +215,21 @@ fn part_of(spot: u64) -> Part
     }
 }
 
-fn content_of(shape: Shape, row: RowWords) -> Content
-    ensures { λ r. ⌜ r ≡ contentOf shape row ⌝ }
+fn content_of(row: RowWords) -> Content
+    ensures { λ r. ⌜ r ≡ contentOf (rowSays row) ⌝ }
 {
-    match shape {
-        Shape::Text => Content::Text(part_of(row.spot)),
-        Shape::Absent => Content::Carried(part_of(row.spot)),
-        Shape::Number {
-            width: _,
-            marked: _,
-        } => {
-            if row.kind == 2 {
-                return Content::Mark;
-            }
-            Content::Reading(row.code)
-        }
+    let kind = row.kind;
+    let part = part_of(row.spot);
+    if kind == READING {
+        return Content::Reading(row.code);
     }
+    if kind == MARK {
+        return Content::Mark;
+    }
+    if kind == TEXT {
+        return Content::Text(part);
+    }
+    Content::Carried(part)
 }
 
 fn single(shape: Shape, room: usize, n: usize, row: RowWords) -> Taken
@@ -230,7 +238,7 @@ fn single(shape: Shape, room: usize, n: usize, row: RowWords) -> Taken
     if is_good_row(shape, room, row) {
         return Taken::Is(Row {
             tag: row.tag,
-            content: content_of(shape, row),
+            content: content_of(row),
         });
     }
     refused(Reason::RowBad, n, tag_shown(row.tag))

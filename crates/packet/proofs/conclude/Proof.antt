@@ -1,34 +1,53 @@
 -- `packet::conclude` meets its contract.
 -- Assumes nothing.
 use borrow.Author.Needs.{needs}
-use mathlib.Core.Path.{sym, _∙_}
-use borrow.Author.Tests.{eq-eqb, ne-eqb}
-use Rattle.packet.specs.Concluded.{concluded}
+use mathlib.Core.Path.{_≡_, sym, ap, _∙_}
+use lib.ListN.{length}
+use Rattle.packet.specs.Ends.{rightEnds}
+use Rattle.packet.specs.Tally.{tallySaid}
+use Rattle.packet.specs.Concluded.{rightSaid, endsBy, concluded}
+use Rattle.packet.proofs.Closing.{ends-right}
 use Rattle.packet.proofs.conclude.Statement.{statement}
 use Rattle.packet.proofs.conclude.Tie as tie
 
-refused-requires : tie.Need-refused-requires
-refused-requires c κs = search needs
+-- the ends by the code's test
+ended : (c : tie.After-check-ends) → (let a = c .before .before .before .args in
+    rightSaid (c .check-ends .result) ≡ rightEnds (endsBy (length (a .packet .now)) (a .from) (tallySaid (a .tally))))
+ended c = c .check-ends .ensures ∙ ap rightEnds (c .before .ends-of .ensures)
+
+ends-of-requires : tie.Need-ends-of-requires
+ends-of-requires c κs = search needs
+
+check-ends-requires : tie.Need-check-ends-requires
+check-ends-requires c κs = search needs
+
+enum-known-refusal : tie.Need-enum-known-refusal
+enum-known-refusal c = search needs
+
+enum-told : tie.Need-enum-told
+enum-told c = search needs
+
+summed-requires : tie.Need-summed-requires
+summed-requires c κs =
+    let k = c .before .before in
+    (k .before .before .before .pre, ends-right _ (sym (ended k) ∙ ap rightSaid (c .enum-told .given .1)) .pair)
 
 returns : tie.Need-returns
 unfolding concluded
-returns c = c .refused .ensures ∙ sym (rw (eq-eqb _ 0 (c .before .if1 .taken)))
-
-ended-requires : tie.Need-ended-requires
-ended-requires c κs = search needs
+returns c = sym (rw (sym (ended (c .before .before .before)) ∙ ap rightSaid (c .before .refusal .given .1)))
 
 returns-2 : tie.Need-returns-2
 unfolding concluded
-returns-2 c = c .ended .ensures ∙ sym (rw (ne-eqb _ 0 (c .before .before .if1 .left), eq-eqb _ 2 (c .before .if2 .taken)))
-
-refused-requires-2 : tie.Need-refused-requires-2
-refused-requires-2 c κs = search needs
-
-returns-3 : tie.Need-returns-3
-unfolding concluded
-returns-3 c = c .refused2 .ensures ∙ sym (rw (ne-eqb _ 0 (c .before .before .if1 .left), ne-eqb _ 2 (c .before .if2 .left)))
+returns-2 c = c .summed .ensures ∙ sym (rw (sym (ended (c .before .before .before)) ∙ ap rightSaid (c .before .enum-told .given .1)))
 
 pub conclude-spec : {M : Type 1} → statement M
 conclude-spec =
     tie.close
-    (tie.spec refused-requires returns ended-requires returns-2 refused-requires-2 returns-3)
+    (tie.spec
+    ends-of-requires
+    check-ends-requires
+    enum-known-refusal
+    enum-told
+    summed-requires
+    returns
+    returns-2)

@@ -5,10 +5,10 @@ use mathlib.Core.Path.{_≡_, sym, ap, _∙_}
 use native.Mathlib.Omega.{arith}
 use Rattle.number.specs.Stored.{Bytes}
 use Rattle.tagset.specs.Sets.{holds}
-use Rattle.catalogue.specs.Shapes.{shapeOf}
 use Rattle.catalogue.specs.Column.{shapeIn}
 use Rattle.catalogue.proofs.Columns.{shape-in-column}
-use Rattle.packet.specs.Judge.{shapeFault}
+use Rattle.packet.specs.Judge.{faultBy, looked}
+use Rattle.packet.specs.Headers.{itemBy}
 use Rattle.packet.proofs.Faults.{fault-unknown, fault-known, fault-free, fault-told}
 use borrow.Author.Needs.{needs}
 use Rattle.packet.proofs.fault_at.Statement.{statement}
@@ -53,7 +53,7 @@ returns c =
     let bytes : Bytes (a .packet .now) = record { byte = λ i. k .shared-slice-known .given i .fits } in
     let size : a .item .place + a .item .size - a .item .place ≡ a .item .size = omega arith in
     fault-told (a .item .tag) (a .item .size) (c .before .value .result) (c .fault-of .ensures) shape (c .before .before .before .before .before .has2 .ensures)
-    ∙ (ap (shapeFault (shapeOf (a .item .tag)) (a .item .tag) (a .item .size) (holds (a .seen) (a .item .tag))) (rw size at (c .before .value .ensures))
+    ∙ (ap (λ x. faultBy (looked (a .item .tag) (a .item .size) x (holds (a .seen) (a .item .tag)))) (rw size at (c .before .value .ensures))
     ∙ fault-known (a .known) (a .seen) (a .packet .now) (a .item) bytes (k .before .pre .1) known)
 
 fault-of-requires-2 : tie.Need-fault-of-requires-2
@@ -69,7 +69,7 @@ returns-2 c =
     ∙ fault-free (a .known) (a .seen) (a .packet .now) (a .item) (k .before .pre .1) known (sym (c .before .before .limits-codes .ensures) ∙ c .before .if2 .left)
 
 returns-3 : tie.Need-returns-3
-returns-3 c = fault-unknown _ _ _ (sym (c .before .has .ensures) ∙ c .if1 .left)
+returns-3 c = fault-unknown _ _ (itemBy (c .before .before .before .args .packet .now) (c .before .before .before .args .item)) (sym (c .before .has .ensures) ∙ c .if1 .left)
 
 pub fault-at-spec : {M : Type 1} → statement M
 fault-at-spec =

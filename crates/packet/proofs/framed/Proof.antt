@@ -9,12 +9,12 @@ use Rattle.number.proofs.Laws.{bytes-drop}
 use Rattle.ber.specs.Read.{got, readLength}
 use Rattle.ber.specs.Seen.{seen}
 use Rattle.ber.proofs.Laws.{LengthRead, length-read}
-use Rattle.packet.specs.Concluded.{framedAt, outerBy}
+use Rattle.packet.specs.Structure.{frame, outerBy}
 use Rattle.packet.proofs.Frames.{too-long, other-key, by-outer}
 use Rattle.packet.proofs.framed.Statement.{statement}
 use Rattle.packet.proofs.framed.Tie as tie
 
-keyed : (c : tie.After-length-at) → framedAt (c .before .before .before .before .before .args .packet .now) ≡ outerBy (c .before .before .before .before .before .args .packet .now) (readLength (drop 16 (c .before .before .before .before .before .args .packet .now)))
+keyed : (c : tie.After-length-at) → frame (c .before .before .before .before .before .args .packet .now) ≡ outerBy (c .before .before .before .before .before .args .packet .now) (readLength (drop 16 (c .before .before .before .before .before .args .packet .now)))
 keyed c = by-outer _ (c .before .before .before .if1 .left) (sym (c .before .before .has-key .ensures) ∙ c .before .if2 .taken)
 
 sized : (c : tie.After-known-told) → readLength (drop 16 (c .before .before .before .before .before .before .before .before .args .packet .now)) ≡ got (c .before .value .given .0 .0) (c .before .value .given .0 .1 .0)

@@ -6,7 +6,7 @@ use lib.ListN.{length}
 use borrow.Author.Tests.{lt-ltb, le-ltb}
 use Rattle.tagset.specs.Sets.{holds}
 use Rattle.rows.specs.Taken.{rowTaken, rowTakenAt}
-use Rattle.rows.specs.Kinds.{shapeFor}
+use Rattle.rows.specs.Meaning.{shapeFor}
 use Rattle.rows.proofs.Laws.{shape-by-column}
 use Rattle.rows.proofs.take_row.Statement.{statement}
 use Rattle.rows.proofs.take_row.Tie as tie
