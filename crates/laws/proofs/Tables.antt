@@ -10,9 +10,8 @@ use mathlib.Core.List.{List, [], _∷_, _++_}
 use lib.ListN.{length, getD}
 use lib.Dec.{ltb}
 use borrow.Author.Tests.{ltb-false, le-ltb}
-use Rattle.base.specs.Cases.{never}
-use Rattle.refusal.specs.Answer.{Answer, given, refused, map}
-use Rattle.refusal.proofs.Answers.{not-given, given-same, passed, missed, map-given}
+use Rattle.refusal.specs.Answer.{given, refused}
+use Rattle.refusal.proofs.Answers.{passed, missed, map-given, map-refused}
 use Rattle.number.specs.Stored.{Bytes}
 use Rattle.tagset.specs.Sets.{holds}
 use Rattle.tagset.specs.declared.TagSet.{TagSet}
@@ -121,11 +120,6 @@ has-received K p t done e =
       accepted = rw (r .right, r .accepted);
       rows = rw (r .table) (rows-in-table (holds K) (r .items) t (done .count) (read-count r));
     }
-
--- a map that gives nothing was given nothing
-map-refused : {A B : Type 0} (f : A → B) (a : Answer A) (n p t : ℕ) → map f a ≡ refused n p t → a ≡ refused n p t
-map-refused f (given x) n p t e = never (cc)
-map-refused f (refused m b v) n p t e = cc
 
 -- with a table that is long enough its refusal is the one of a receiver that is lent none
 pub received-refused : (K : TagSet) (p t : List ℕ) → 512 ≤ length t → (n a u : ℕ) → readAnswer K p t ≡ refused n a u → received K p ≡ refused n a u

@@ -2,15 +2,15 @@
 -- Assumes nothing.
 use Prim.Native.Nat.{ℕ, zero, suc, _+_, _-_}
 use native.Mathlib.Omega.{arith}
-use mathlib.Core.Path.{_≡_, refl, ap, _∙_}
-use mathlib.Core.Bool.{Bool, true, false, cond, _&&_}
+use mathlib.Core.Path.{_≡_, refl, ap, sym, _∙_}
+use mathlib.Core.Bool.{true, false}
 use mathlib.Core.List.{List, [], _∷_}
 use lib.ListN.{length, length-append}
-use lib.Dec.{ltb, eqb}
 use borrow.Author.Tests.{ne-eqb}
-use Rattle.base.specs.Cases.{byBool, byLt, byEq, never}
+use Rattle.base.specs.Cases.{byBool, byLt, byEq}
 use Rattle.base.specs.Every.{Each}
-use Rattle.refusal.specs.Answer.{Answer, given, refused}
+use Rattle.refusal.specs.Answer.{Answer, given, refused, map, then}
+use Rattle.refusal.proofs.Answers.{passed}
 use Rattle.number.specs.Stored.{valueOf}
 use Rattle.tagset.specs.Sets.{holds, withTag}
 use Rattle.tagset.specs.declared.TagSet.{TagSet}
@@ -18,48 +18,33 @@ use Rattle.tagset.proofs.Laws.{Words, holds-none}
 use Rattle.knowing.specs.Good.{good}
 use Rattle.catalogue.specs.Items.{groups, member, itemIn, itemOf}
 use Rattle.catalogue.specs.Shapes.{shapeOf, codeAllowed}
-use Rattle.rows.specs.Kinds.{Row, shapeFor}
+use Rattle.rows.specs.Meaning.{Row, shapeFor}
 use Rattle.rows.specs.Taken.{spotLength, rowGood, tagShown, countGood, rowAt}
 use Rattle.packet.specs.Pieces.{Piece}
-use Rattle.packet.specs.Structure.{isChecksum}
-use Rattle.packet.specs.Judge.{Knowing, has, Fault, clean, wrong, faultOf, Judged, fine, faulty, noVersion, later, onFault, judgeFrom, judge}
+use Rattle.packet.specs.Ends.{rightEnds}
+use Rattle.packet.specs.Judge.{Knowing, has, among, Fault, clean, wrong, faultOf, Judged, fine, faulty, noVersion, later, onFault, judgeFrom, judge}
 use Rattle.packet.specs.Encode.{itemsBytes, encode}
 use Rattle.packet.specs.Rows.{rowsIn, pieceOf, piecesOf}
 use Rattle.packet.proofs.Tallies.{SeenBy, none-seen, one-seen}
 use Rattle.packet.proofs.Faults.{sixty-three}
 use Rattle.laws.proofs.Written.{length-item, length-encode}
 use Rattle.laws.proofs.Rows.{GoodRow, good-made}
-use Rattle.outgoing.specs.declared.Packed.{Packed}
-use Rattle.outgoing.specs.Outgoing.{goodFrom, fits, begins, closesFrom, closes, byRow, sendable, outgoingRows, outgoing, packedOf, sizeOf}
-use Rattle.outgoing.specs.Staged.{rowsSize, packedBy, rowFault, unlessFaulty, noTags, rowsJudged, lastRow, firstRow, begunIn, sizedIn}
+use Rattle.outgoing.specs.Outgoing.{rightRows, rightSize, lastPiece, endsOf, byRow, sendable, outgoing, packedOf}
+use Rattle.outgoing.specs.Staged.{rowsSize, packedBy, rowFault, unlessFaulty, noTags, rowsJudged, endsIn, sizedIn}
 
-size-cond : (b : Bool) (x y : Answer (List Piece)) → sizeOf (cond b x y) ≡ cond b (sizeOf x) (sizeOf y)
-size-cond true x y = refl
-size-cond false x y = refl
-
--- no row is bad, or the first that is
+-- no row is bad
 module _ (K : Knowing) (b : List ℕ) where
-  pub all-good : (k : ℕ) (rs : List Row) → goodFrom K (length b) k rs (given []) ≡ given [] → Each (GoodRow K b) rs
-  unfolding goodFrom
+  pub all-good : (k : ℕ) (rs : List Row) → rightRows K (length b) k rs ≡ given tt → Each (GoodRow K b) rs
+  unfolding rightRows
   all-good k [] e = tt
   all-good k (r ∷ rs) e =
-      byBool (rowGood (shapeFor K (r .tag)) (length b) r)
-      (λ g. (g, all-good (suc k) rs (rw g at e)))
-      (λ g. let z : refused 17 k (tagShown (r .tag)) ≡ given [] = rw g at e in never (cc))
+      let g = passed (rowGood (shapeFor K (r .tag)) (length b) r) _ 17 k (tagShown (r .tag)) e in
+      (g .0, all-good (suc k) rs (g .1))
 
-  pub good-otherwise : (k : ℕ) (rs : List Row) (o : Answer (List Piece)) → Each (GoodRow K b) rs → goodFrom K (length b) k rs o ≡ o
-  unfolding goodFrom
-  good-otherwise k [] o g = refl
-  good-otherwise k (r ∷ rs) o g = rw (g .0) (good-otherwise (suc k) rs o (g .1))
-
-  pub bad-otherwise : (k : ℕ) (rs : List Row) (o : Answer (List Piece)) (n p t : ℕ) → goodFrom K (length b) k rs (given []) ≡ refused n p t
-      → goodFrom K (length b) k rs o ≡ refused n p t
-  unfolding goodFrom
-  bad-otherwise k [] o n p t e = never (cc)
-  bad-otherwise k (r ∷ rs) o n p t e =
-      byBool (rowGood (shapeFor K (r .tag)) (length b) r)
-      (λ g. rw g (bad-otherwise (suc k) rs o n p t (rw g at e)))
-      (λ g. rw g (let z : refused 17 k (tagShown (r .tag)) ≡ refused n p t = rw g at e in cc))
+  pub good-all : (k : ℕ) (rs : List Row) → Each (GoodRow K b) rs → rightRows K (length b) k rs ≡ given tt
+  unfolding rightRows
+  good-all k [] g = refl
+  good-all k (r ∷ rs) g = rw (g .0) (good-all (suc k) rs (g .1))
 
   -- the items' bytes
   items-size : (rs : List Row) → Each (GoodRow K b) rs → length (itemsBytes (piecesOf K b rs)) ≡ rowsSize rs
@@ -81,34 +66,63 @@ module _ (K : Knowing) (b : List ℕ) where
   each-last words k zero g = let e : k + 0 ≡ k = omega arith in rw e (g .0)
   each-last words k (suc n) g = let e : k + suc n ≡ suc k + n = omega arith in rw e (each-last words (suc k) n (g .1))
 
-  closing : (words : List ℕ) (k n : ℕ) (o : Answer (List Piece))
-      → closesFrom k (pieceOf K b (rowAt words k)) (piecesOf K b (rowsIn (suc k) n words)) o
-      ≡ cond (isChecksum (pieceOf K b (rowAt words (k + n)))) o (refused 10 (k + n) (rowAt words (k + n) .tag))
+  last-piece : (words : List ℕ) (k n : ℕ)
+      → lastPiece (pieceOf K b (rowAt words k)) (piecesOf K b (rowsIn (suc k) n words)) ≡ pieceOf K b (rowAt words (k + n))
+  unfolding rowsIn piecesOf
+  last-piece words k zero = let e : k ≡ k + 0 = omega arith in ap (λ m. pieceOf K b (rowAt words m)) e
+  last-piece words k (suc n) =
+      let e : suc k + n ≡ k + suc n = omega arith in
+      last-piece words (suc k) n ∙ ap (λ m. pieceOf K b (rowAt words m)) e
+
+  length-rows : (words : List ℕ) (k n : ℕ) → length (piecesOf K b (rowsIn k n words)) ≡ n
+  unfolding rowsIn piecesOf
+  length-rows words k zero = refl
+  length-rows words k (suc n) = ap suc (length-rows words (suc k) n)
+
+  -- the first and the last row
+  ends-rows : (words : List ℕ) (count : ℕ) → Each (GoodRow K b) (rowsIn 0 count words)
+      → endsOf (piecesOf K b (rowsIn 0 count words)) ≡ endsIn count words
   unfolding rowsIn piecesOf pieceOf
-  closing words k zero o = let e : k + 0 ≡ k = omega arith in rw e
-  closing words k (suc n) o = let e : k + suc n ≡ suc k + n = omega arith in rw e (closing words (suc k) n o)
+  ends-rows words zero g = refl
+  ends-rows words (suc n) g =
+      let e : 0 + n ≡ n = omega arith in
+      let p : suc n - 1 ≡ n = omega arith in
+      let last : GoodRow K b (rowAt words n) = rw e at (each-last words 0 n g) in
+      let z : lastPiece (pieceOf K b (rowAt words 0)) (piecesOf K b (rowsIn 1 n words)) ≡ pieceOf K b (rowAt words n) = rw e at (last-piece words 0 n) in
+      rw (ne-eqb (suc n) 0 (λ q. omega arith), p)
+      (λ i. record {
+        start = 0;
+        first = rowAt words 0 .tag;
+        end = length-rows words 1 n i;
+        last = z i .tag;
+        size = (ap (λ (c : Piece). length (c .value)) z ∙ sym (good-made K b (rowAt words n) last .size)) i;
+      })
 
-  is-last : (r : Row) → GoodRow K b r → isChecksum (pieceOf K b r) ≡ eqb (r .tag) 1 && eqb (spotLength (r .spot)) 2
-  unfolding pieceOf
-  is-last r g = rw (good-made K b r g .size)
+-- row by row, from the row numbered k on
+judgedFrom : ℕ → Judged → Answer (Unit {0})
+judgedFrom k fine = given tt
+judgedFrom k (faulty i n t) = refused n (k + i) t
+judgedFrom k noVersion = refused 15 0 0
 
--- row by row
-judgedSize : ℕ → Packed → Judged → Answer Packed
-judgedSize k size fine = given size
-judgedSize k size (faulty i n t) = refused n (k + i) t
-judgedSize k size noVersion = refused 15 0 0
+judged-later : (k : ℕ) (j : Judged) → judgedFrom k (later j) ≡ judgedFrom (k + 1) j
+unfolding judgedFrom
+judged-later k fine = refl
+judged-later k (faulty i n t) = let e : k + suc i ≡ k + 1 + i = omega arith in ap (λ x. refused n x t) e
+judged-later k noVersion = refl
 
-judged-later : (k : ℕ) (size : Packed) (j : Judged) → judgedSize k size (later j) ≡ judgedSize (k + 1) size j
-unfolding judgedSize
-judged-later k size fine = refl
-judged-later k size (faulty i n t) = let e : k + suc i ≡ k + 1 + i = omega arith in ap (λ x. refused n x t) e
-judged-later k size noVersion = refl
+judged-row : (j : Judged) → byRow j ≡ judgedFrom 0 j
+unfolding judgedFrom
+judged-row fine = refl
+judged-row (faulty i n t) = let e : i ≡ 0 + i = omega arith in ap (λ x. refused n x t) e
+judged-row noVersion = refl
 
-judged-row : (cs : List Piece) (j : Judged) → sizeOf (byRow cs j) ≡ judgedSize 0 (packedOf cs) j
-unfolding judgedSize
-judged-row cs fine = refl
-judged-row cs (faulty i n t) = let e : i ≡ 0 + i = omega arith in ap (λ x. refused n x t) e
-judged-row cs noVersion = refl
+-- what is given at the end of the stages
+stages-map : {A B : Type 0} (f : A → B) (a b c : Answer (Unit {0})) (x : A)
+    → map f (then a (λ _. then b (λ _. then c (λ _. given x)))) ≡ then a (λ _. then b (λ _. then c (λ _. given (f x))))
+stages-map f (refused n p t) b c x = refl
+stages-map f (given u) (refused n p t) c x = refl
+stages-map f (given u) (given v) (refused n p t) x = refl
+stages-map f (given u) (given v) (given w) x = refl
 
 module _ (K : TagSet) (w : Words K) (b : List ℕ) where
   abbrev Good : Row → Type 0
@@ -120,19 +134,19 @@ module _ (K : TagSet) (w : Words K) (b : List ℕ) where
   unfolding shapeFor shapeOf itemOf itemIn member groups
   limited-code r g k e other = rw (k, e) at (good-made (holds K) b r g .code other)
 
-  same-code : (r : Row) → Good r → holds K (r .tag) ≡ true → codeAllowed (r .tag) (r .code) ≡ codeAllowed (r .tag) (valueOf (pieceOf (holds K) b r .value))
+  same-code : (r : Row) → Good r → holds K (r .tag) ≡ true → (n : ℕ) → codeAllowed (r .tag) n (r .code) ≡ codeAllowed (r .tag) n (valueOf (pieceOf (holds K) b r .value))
   unfolding codeAllowed
-  same-code r g k =
-      byEq (r .tag) 34 (λ e. ap (codeAllowed (r .tag)) (limited-code r g k (ap shapeOf e) (λ f. omega arith)))
-      (λ x. byEq (r .tag) 63 (λ e. ap (codeAllowed (r .tag)) (limited-code r g k (ap shapeOf e ∙ sixty-three) (λ f. omega arith)))
+  same-code r g k n =
+      byEq (r .tag) 34 (λ e. ap (codeAllowed (r .tag) n) (limited-code r g k (ap shapeOf e) (λ f. omega arith)))
+      (λ x. byEq (r .tag) 63 (λ e. ap (codeAllowed (r .tag) n) (limited-code r g k (ap shapeOf e ∙ sixty-three) (λ f. omega arith)))
       (λ y. rw (ne-eqb (r .tag) 34 x, ne-eqb (r .tag) 63 y)))
 
-  same-fault : (seen : TagSet) (ts : List ℕ) (r : Row) → Good r → SeenBy seen ts → rowFault K seen r ≡ faultOf (holds K) ts (pieceOf (holds K) b r)
+  same-fault : (seen : TagSet) (ts : List ℕ) (r : Row) → Good r → SeenBy seen ts → rowFault K seen r ≡ faultOf (holds K) (among ts) (pieceOf (holds K) b r)
   unfolding rowFault faultOf pieceOf
   same-fault seen ts r g s =
       byLt (r .tag) 128
       (λ h. byBool (holds K (r .tag))
-      (λ k. rw (k, same-code r g k, good-made (holds K) b r g .size, s .each (r .tag) h))
+      (λ k. rw (k, same-code r g k _, good-made (holds K) b r g .size, s .each (r .tag) h))
       (λ k. rw k))
       (λ h. rw (holds-none K w (r .tag) h))
 
@@ -140,84 +154,52 @@ module _ (K : TagSet) (w : Words K) (b : List ℕ) where
   by-fault P c x clean = c
   by-fault P c x (wrong n) = x n
 
-  judged-rows : (k : ℕ) (size : Packed) (seen : TagSet) (ts : List ℕ) (rs : List Row) → Each Good rs → SeenBy seen ts
-      → judgedSize k size (judgeFrom (holds K) ts (piecesOf (holds K) b rs)) ≡ rowsJudged K seen k rs size
-  unfolding judgedSize judgeFrom rowsJudged piecesOf pieceOf
-  judged-rows k size seen ts [] g s = rw (s .each 65 (omega arith)) (byBool (has 65 ts) (λ f. rw f) (λ f. rw f))
-  judged-rows k size seen ts (r ∷ rs) g s =
+  judged-rows : (k : ℕ) (seen : TagSet) (ts : List ℕ) (rs : List Row) → Each Good rs → SeenBy seen ts
+      → judgedFrom k (judgeFrom (holds K) ts (piecesOf (holds K) b rs)) ≡ rowsJudged K seen k rs
+  unfolding judgedFrom judgeFrom rowsJudged piecesOf pieceOf
+  judged-rows k seen ts [] g s = rw (s .each 65 (omega arith)) (byBool (has 65 ts) (λ f. rw f) (λ f. rw f))
+  judged-rows k seen ts (r ∷ rs) g s =
       let t = r .tag in
       let rest : Judged = judgeFrom (holds K) (t ∷ ts) (piecesOf (holds K) b rs) in
-      let next : Answer Packed = rowsJudged K (withTag seen t) (k + 1) rs size in
-      let goes : Fault → Type 0 = λ f. judgedSize k size (onFault f t rest) ≡ unlessFaulty f k t next in
-      let cleanly : goes clean = judged-later k size rest ∙ judged-rows (k + 1) size (withTag seen t) (t ∷ ts) rs (g .1) (one-seen seen ts t s) in
+      let next : Answer (Unit {0}) = rowsJudged K (withTag seen t) (k + 1) rs in
+      let goes : Fault → Type 0 = λ f. judgedFrom k (onFault f t rest) ≡ unlessFaulty f k t next in
+      let cleanly : goes clean = judged-later k rest ∙ judged-rows (k + 1) (withTag seen t) (t ∷ ts) rs (g .1) (one-seen seen ts t s) in
       let wrongly : (n : ℕ) → goes (wrong n) = λ n. let e : k + 0 ≡ k = omega arith in ap (λ x. refused n x t) e in
-      rw (same-fault seen ts r (g .0) s) (by-fault goes cleanly wrongly (faultOf (holds K) ts (pieceOf (holds K) b r)))
+      rw (same-fault seen ts r (g .0) s) (by-fault goes cleanly wrongly (faultOf (holds K) (among ts) (pieceOf (holds K) b r)))
 
-  judged-all : (rs : List Row) (size : Packed) → packedOf (piecesOf (holds K) b rs) ≡ size → Each Good rs
-      → sizeOf (byRow (piecesOf (holds K) b rs) (judge (holds K) (piecesOf (holds K) b rs))) ≡ rowsJudged K noTags 0 rs size
+  judged-all : (rs : List Row) → Each Good rs → byRow (judge (holds K) (piecesOf (holds K) b rs)) ≡ rowsJudged K noTags 0 rs
   unfolding judge
-  judged-all rs size e g =
-      judged-row (piecesOf (holds K) b rs) (judge (holds K) (piecesOf (holds K) b rs))
-      ∙ (ap (λ n. judgedSize 0 n (judge (holds K) (piecesOf (holds K) b rs))) e ∙ judged-rows 0 size noTags [] rs g none-seen)
+  judged-all rs g = judged-row (judge (holds K) (piecesOf (holds K) b rs)) ∙ judged-rows 0 noTags [] rs g none-seen
 
-  module _ (words : List ℕ) where
-    ended-all : (n : ℕ) (o : Answer (List Piece)) → Each Good (rowsIn 0 (suc n) words)
-        → sizeOf (closes (piecesOf (holds K) b (rowsIn 0 (suc n) words)) o) ≡ lastRow n (rowAt words n) (sizeOf o)
-    unfolding closes rowsIn piecesOf
-    ended-all n o g =
-        let e : 0 + n ≡ n = omega arith in
-        let last : GoodRow (holds K) b (rowAt words n) = rw e at (each-last (holds K) b words 0 n g) in
-        ap sizeOf (rw e at (closing (holds K) b words 0 n o))
-        ∙ (size-cond (isChecksum (pieceOf (holds K) b (rowAt words n))) o (refused 10 n (rowAt words n .tag))
-        ∙ rw (is-last (holds K) b (rowAt words n) last))
-
-    begun-all : (n : ℕ) (o : Answer (List Piece))
-        → sizeOf (begins (piecesOf (holds K) b (rowsIn 0 (suc n) words)) o) ≡ firstRow (rowAt words 0) (sizeOf o)
-    unfolding begins rowsIn piecesOf pieceOf
-    begun-all n o = size-cond (eqb (rowAt words 0 .tag) 2) o (refused 9 0 (rowAt words 0 .tag))
-
-    begun-ended : (count : ℕ) (size : Packed) → packedOf (piecesOf (holds K) b (rowsIn 0 count words)) ≡ size → Each Good (rowsIn 0 count words)
-        → (let cs = piecesOf (holds K) b (rowsIn 0 count words) in sizeOf (begins cs (closes cs (byRow cs (judge (holds K) cs)))) ≡ begunIn K count words size)
-    begun-ended zero size e g = unfold begins rowsIn piecesOf in refl
-    begun-ended (suc n) size e g =
-        let cs : List Piece = piecesOf (holds K) b (rowsIn 0 (suc n) words) in
-        let j : Answer (List Piece) = byRow cs (judge (holds K) cs) in
-        let p : suc n - 1 ≡ n = omega arith in
-        begun-all n (closes cs j)
-        ∙ (ap (firstRow (rowAt words 0)) (ended-all n j g ∙ ap (lastRow n (rowAt words n)) (judged-all (rowsIn 0 (suc n) words) size e g))
-        ∙ rw (p, ne-eqb (suc n) 0 (λ z. omega arith)))
-
-    pub sized-all : (count : ℕ) → Each Good (rowsIn 0 count words)
-        → sizeOf (sendable (holds K) (piecesOf (holds K) b (rowsIn 0 count words))) ≡ sizedIn K count words
-    unfolding sendable fits
-    sized-all count g =
+  module _ (words : List ℕ) (count : ℕ) where
+    pub sized-all : Each Good (rowsIn 0 count words)
+        → map packedOf (sendable (holds K) (piecesOf (holds K) b (rowsIn 0 count words))) ≡ sizedIn K count words
+    unfolding sendable
+    sized-all g =
         let rs : List Row = rowsIn 0 count words in
         let cs : List Piece = piecesOf (holds K) b rs in
-        let e = packet-size (holds K) b rs g in
-        size-cond (ltb 8192 (length (encode cs))) (refused 3 0 0) (begins cs (closes cs (byRow cs (judge (holds K) cs))))
-        ∙ (ap (λ x. cond (ltb 8192 (length (encode cs))) (refused 3 0 0) x) (begun-ended count (packedBy (rowsSize rs)) e g)
-        ∙ ap (λ n. cond (ltb 8192 (n .size)) (refused 3 0 0) (begunIn K count words (packedBy (rowsSize rs)))) e)
+        stages-map packedOf (rightSize (length (encode cs))) (rightEnds (endsOf cs)) (byRow (judge (holds K) cs)) cs
+        ∙ (ap (λ z. then (rightSize (z .size)) (λ _. then (rightEnds (endsOf cs)) (λ _. then (byRow (judge (holds K) cs)) (λ _. given z))))
+        (packet-size (holds K) b rs g)
+        ∙ rw (ends-rows (holds K) b words count g, judged-all rs g))
 
     -- the whole, by what was found of the rows
-    module _ (count : ℕ) (right : good K ≡ true) (few : countGood count (length words) ≡ true) where
-      pub rows-good : goodFrom (holds K) (length b) 0 (rowsIn 0 count words) (given []) ≡ given [] → sizeOf (outgoing K count words b) ≡ sizedIn K count words
-      unfolding outgoing outgoingRows
-      rows-good e =
-          let g = all-good (holds K) b 0 (rowsIn 0 count words) e in
-          rw (right, few, good-otherwise (holds K) b 0 (rowsIn 0 count words) (sendable (holds K) (piecesOf (holds K) b (rowsIn 0 count words))) g) (sized-all count g)
+    module _ (right : good K ≡ true) (few : countGood count (length words) ≡ true) where
+      pub rows-good : rightRows (holds K) (length b) 0 (rowsIn 0 count words) ≡ given tt → map packedOf (outgoing K count words b) ≡ sizedIn K count words
+      unfolding outgoing
+      rows-good e = rw (right, few, e) (sized-all (all-good (holds K) b 0 (rowsIn 0 count words) e))
 
-      pub rows-bad : (n p t : ℕ) → goodFrom (holds K) (length b) 0 (rowsIn 0 count words) (given []) ≡ refused n p t
-          → sizeOf (outgoing K count words b) ≡ refused n p t
-      unfolding outgoing outgoingRows
-      rows-bad n p t e =
-          rw (right, few, bad-otherwise (holds K) b 0 (rowsIn 0 count words) (sendable (holds K) (piecesOf (holds K) b (rowsIn 0 count words))) n p t e)
+      pub rows-bad : (n p t : ℕ) → rightRows (holds K) (length b) 0 (rowsIn 0 count words) ≡ refused n p t
+          → map packedOf (outgoing K count words b) ≡ refused n p t
+      unfolding outgoing
+      rows-bad n p t e = rw (right, few, e)
 
 -- 16 and 1
 module _ (K : TagSet) (count : ℕ) (words b : List ℕ) where
-  pub too-many : good K ≡ true → countGood count (length words) ≡ false → sizeOf (outgoing K count words b) ≡ refused 16 0 0
+  pub too-many : good K ≡ true → countGood count (length words) ≡ false → map packedOf (outgoing K count words b) ≡ refused 16 0 0
   unfolding outgoing
   too-many e f = rw (e, f)
 
-  pub not-good : good K ≡ false → sizeOf (outgoing K count words b) ≡ refused 1 0 0
+  pub not-good : good K ≡ false → map packedOf (outgoing K count words b) ≡ refused 1 0 0
   unfolding outgoing
   not-good e = rw e

@@ -8,20 +8,18 @@ use mathlib.Core.List.{List}
 use lib.ListN.{length}
 use lib.Dec.{ltb, eqb}
 use Rattle.base.specs.Cases.{byBool}
-use Rattle.refusal.specs.Answer.{Answer, given, refused}
+use Rattle.refusal.specs.Answer.{given, refused}
 use Rattle.ber.specs.Written.{tagBytes, lengthBytes}
 use Rattle.ber.proofs.Laws.{sized}
 use Rattle.tagset.specs.Sets.{holds, withTag}
 use Rattle.tagset.specs.declared.TagSet.{TagSet}
 use Rattle.catalogue.specs.declared.Shape.{Shape}
-use Rattle.rows.specs.Kinds.{Row, shapeFor}
+use Rattle.rows.specs.Meaning.{Row, shapeFor}
 use Rattle.rows.specs.Taken.{spotLength, rowGood, tagShown, rowAt}
-use Rattle.packet.specs.Pieces.{Piece}
 use Rattle.packet.specs.Judge.{Knowing, Fault, clean, wrong}
 use Rattle.laws.proofs.Tables.{rows-from, rows-none}
 use Rattle.packet.specs.Rows.{rowsIn}
-use Rattle.outgoing.specs.Outgoing.{goodFrom}
-use Rattle.outgoing.specs.declared.Packed.{Packed}
+use Rattle.outgoing.specs.Outgoing.{rightRows}
 use Rattle.outgoing.specs.Staged.{rowSize, rowsSize, rowFault, unlessFaulty, rowsJudged}
 
 -- how many bytes the items of rows can have
@@ -61,43 +59,43 @@ module _ (words : List ℕ) (count n : ℕ) where
 
     -- a row as the code has it
     module _ (r : Row) (same : r ≡ rowAt words n) where
-      module _ (K : Knowing) (room : ℕ) (s : Shape) (shape : s ≡ shapeFor K (r .tag)) (o : Answer (List Piece)) where
+      module _ (K : Knowing) (room : ℕ) (s : Shape) (shape : s ≡ shapeFor K (r .tag)) where
         pub good-more : rowGood s room r ≡ true
-            → goodFrom K room n (rowsIn n (count - n) words) o ≡ goodFrom K room (n + 1) (rowsIn (n + 1) (count - (n + 1)) words) o
-        unfolding goodFrom
+            → rightRows K room n (rowsIn n (count - n) words) ≡ rightRows K room (n + 1) (rowsIn (n + 1) (count - (n + 1)) words)
+        unfolding rightRows
         good-more g =
             let g′ : rowGood (shapeFor K (r .tag)) room r ≡ true = rw shape at g in
             let e : suc n ≡ n + 1 = omega arith in
-            rw (rows-from words n count h, ← same, g′) (ap (λ k. goodFrom K room k rest o) e)
+            rw (rows-from words n count h, ← same, g′) (ap (λ k. rightRows K room k rest) e)
 
-        pub good-bad : rowGood s room r ≡ false → goodFrom K room n (rowsIn n (count - n) words) o ≡ refused 17 n (tagShown (r .tag))
-        unfolding goodFrom
+        pub good-bad : rowGood s room r ≡ false → rightRows K room n (rowsIn n (count - n) words) ≡ refused 17 n (tagShown (r .tag))
+        unfolding rightRows
         good-bad g =
             let g′ : rowGood (shapeFor K (r .tag)) room r ≡ false = rw shape at g in
             rw (rows-from words n count h, ← same, g′)
 
-      module _ (K seen : TagSet) (size : Packed) where
+      module _ (K seen : TagSet) where
         judged-by : (f : Fault) → f ≡ rowFault K seen r
-            → rowsJudged K seen n (rowsIn n (count - n) words) size ≡ unlessFaulty f n (r .tag) (rowsJudged K (withTag seen (r .tag)) (n + 1) rest size)
+            → rowsJudged K seen n (rowsIn n (count - n) words) ≡ unlessFaulty f n (r .tag) (rowsJudged K (withTag seen (r .tag)) (n + 1) rest)
         unfolding rowsJudged
         judged-by f e = rw (rows-from words n count h, ← same, ← e)
 
         pub judged-more : clean ≡ rowFault K seen r
-            → rowsJudged K seen n (rowsIn n (count - n) words) size ≡ rowsJudged K (withTag seen (r .tag)) (n + 1) (rowsIn (n + 1) (count - (n + 1)) words) size
+            → rowsJudged K seen n (rowsIn n (count - n) words) ≡ rowsJudged K (withTag seen (r .tag)) (n + 1) (rowsIn (n + 1) (count - (n + 1)) words)
         judged-more e = judged-by clean e
 
-        pub judged-wrong : (m : ℕ) → wrong m ≡ rowFault K seen r → rowsJudged K seen n (rowsIn n (count - n) words) size ≡ refused m n (r .tag)
+        pub judged-wrong : (m : ℕ) → wrong m ≡ rowFault K seen r → rowsJudged K seen n (rowsIn n (count - n) words) ≡ refused m n (r .tag)
         judged-wrong m e = judged-by (wrong m) e
 
   pub size-end : count ≤ n → rowsSize (rowsIn n (count - n) words) ≡ 0
   unfolding rowsSize
   size-end h = rw (rows-none words n count h)
 
-  pub good-end : (K : Knowing) (room : ℕ) (o : Answer (List Piece)) → count ≤ n → goodFrom K room n (rowsIn n (count - n) words) o ≡ o
-  unfolding goodFrom
-  good-end K room o h = rw (rows-none words n count h)
+  pub good-end : (K : Knowing) (room : ℕ) → count ≤ n → rightRows K room n (rowsIn n (count - n) words) ≡ given tt
+  unfolding rightRows
+  good-end K room h = rw (rows-none words n count h)
 
-  pub judged-end : (K seen : TagSet) (size : Packed) → count ≤ n
-      → rowsJudged K seen n (rowsIn n (count - n) words) size ≡ cond (holds seen 65) (given size) (refused 15 0 0)
+  pub judged-end : (K seen : TagSet) → count ≤ n
+      → rowsJudged K seen n (rowsIn n (count - n) words) ≡ cond (holds seen 65) (given tt) (refused 15 0 0)
   unfolding rowsJudged
-  judged-end K seen size h = rw (rows-none words n count h)
+  judged-end K seen h = rw (rows-none words n count h)

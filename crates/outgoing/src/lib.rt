@@ -1,18 +1,21 @@
 // What a table of rows comes to before it is written: the writer's refusals in their order, or the size of the packet.
 // Nothing is written here, and no sum wraps for any table.
 ghost use mathlib.Core.Path.{_≡_};
-ghost use Prim.Native.Nat.{_-_, _<_, _≤_};
-ghost use mathlib.Core.List.{[]};
+ghost use Prim.Native.Nat.{_≤_};
 ghost use lib.ListN.{length};
 ghost use Rattle.refusal.specs.Numbers.{number};
-ghost use Rattle.refusal.specs.Answer.{given, refused as refusedBy};
+ghost use Rattle.refusal.specs.Answer.{refused as refusedBy, map};
 ghost use Rattle.tagset.specs.Sets.{holds};
 ghost use Rattle.catalogue.specs.Column.{shapeColumn};
 ghost use Rattle.packet.specs.Headers.{faultSaid};
+ghost use Rattle.packet.specs.Concluded.{rightSaid};
 ghost use Rattle.packet.specs.Rows.{rowsIn};
-ghost use Rattle.outgoing.specs.Outgoing.{goodFrom, outgoing, sizeOf};
-ghost use Rattle.outgoing.specs.Staged.{rowSize, rowsSize, packedBy, rowFault, judgedIn, endedIn, begunIn, sizedIn, firstSaid, outgoingSaid};
+ghost use Rattle.outgoing.specs.Outgoing.{rightRows, outgoing, packedOf};
+ghost use Rattle.outgoing.specs.Staged.{rowSize, rowsSize, packedBy, rowFault, judgedIn, endsIn, closedIn, sizedIn, outgoingSaid};
+use packet::Ends;
 use packet::Fault;
+use packet::Looked;
+use packet::Right;
 use refusal::Reason;
 use refusal::Refusal;
 use rows::RowWords;
@@ -35,15 +38,10 @@ fn refused(reason: Reason, place: usize, tag: u64) -> Outgoing
     Outgoing::Refused(Refusal { reason, place, tag })
 }
 
-// The first bad row.
-enum First {
-    None,
-    At(Refusal),
-}
-
-fn first_bad(column: &[u8; 128], known: TagSet, count: usize, words: &[u64], room: usize) -> First
+// No row is bad, or the refusal of the first that is.
+fn rows_right(column: &[u8; 128], known: TagSet, count: usize, words: &[u64], room: usize) -> Right
     requires { ⌜ now column ≡ shapeColumn ⌝ }
-    ensures { λ r. ⌜ firstSaid r ≡ goodFrom (holds known) room 0 (rowsIn 0 count (now (words .entry))) (given []) ⌝ }
+    ensures { λ r. ⌜ rightSaid r ≡ rightRows (holds known) room 0 (rowsIn 0 count (now (words .entry))) ⌝ }
 {
     let mut n: usize = 0;
     while n < count {
@@ -52,14 +50,14 @@ fn first_bad(column: &[u8; 128], known: TagSet, count: usize, words: &[u64], roo
         if rows::is_good_row(shape, room, row) {
             n += 1;
         } else {
-            return First::At(Refusal {
+            return Right::Refused(Refusal {
                 reason: Reason::RowBad,
                 place: n,
                 tag: rows::tag_shown(row.tag),
             });
         }
     }
-    First::None
+    Right::Yes
 }
 
 // How many bytes a row's item has.
@@ -104,21 +102,21 @@ fn fault_at(column: &[u8; 128], known: TagSet, seen: TagSet, row: RowWords) -> F
         let shape = catalogue::shape_at(column, tag);
         let size = (row.spot % 65536) as usize;
         let twice = tagset::has(seen, tag);
-        return packet::fault_of(shape, tag, size, twice, row.code);
+        return packet::fault_of(Looked {
+            shape,
+            tag,
+            size,
+            code: row.code,
+            twice,
+        });
     }
     Fault::Clean
 }
 
-// The first fault row by row, then item 65.
-fn judged(
-    column: &[u8; 128],
-    known: TagSet,
-    count: usize,
-    words: &[u64],
-    packed: Packed,
-) -> Outgoing
+// Row by row the faults of known items, then item 65.
+fn judged(column: &[u8; 128], known: TagSet, count: usize, words: &[u64]) -> Right
     requires { ⌜ now column ≡ shapeColumn ⌝ }
-    ensures { λ r. ⌜ outgoingSaid r ≡ judgedIn known count (now (words .entry)) packed ⌝ }
+    ensures { λ r. ⌜ rightSaid r ≡ judgedIn known count (now (words .entry)) ⌝ }
 {
     let mut seen = TagSet { low: 0, high: 0 };
     let mut n: usize = 0;
@@ -126,7 +124,11 @@ fn judged(
         let row = rows::row_at(words, n);
         match fault_at(column, known, seen, row) {
             Fault::Wrong(reason) => {
-                return refused(reason, n, row.tag);
+                return Right::Refused(Refusal {
+                    reason,
+                    place: n,
+                    tag: row.tag,
+                });
             }
             Fault::Clean => {
                 seen = tagset::with_tag(seen, row.tag);
@@ -135,39 +137,58 @@ fn judged(
         }
     }
     if tagset::has(seen, 65) {
-        return Outgoing::Fits(packed);
+        return Right::Yes;
     }
-    refused(Reason::VersionMissing, 0, 0)
+    Right::Refused(Refusal {
+        reason: Reason::VersionMissing,
+        place: 0,
+        tag: 0,
+    })
 }
 
-// The last row before that.
-fn ended(column: &[u8; 128], known: TagSet, count: usize, words: &[u64], packed: Packed) -> Outgoing
-    requires { ⌜ (now column ≡ shapeColumn) × (0 < count) ⌝ }
-    ensures { λ r. ⌜ outgoingSaid r ≡ endedIn known count (now (words .entry)) packed ⌝ }
-{
-    let at = count - 1;
-    let last = rows::row_at(words, at);
-    if last.tag == 1 {
-        if last.spot % 65536 == 2 {
-            return judged(column, known, count, words, packed);
-        }
-    }
-    refused(Reason::LastNotChecksum, at, last.tag)
-}
-
-// The first row before that.
-fn begun(column: &[u8; 128], known: TagSet, count: usize, words: &[u64], packed: Packed) -> Outgoing
-    requires { ⌜ now column ≡ shapeColumn ⌝ }
-    ensures { λ r. ⌜ outgoingSaid r ≡ begunIn known count (now (words .entry)) packed ⌝ }
+// The first and the last row, by their numbers.
+fn ends_of(count: usize, words: &[u64]) -> Ends
+    ensures { λ r. ⌜ r ≡ endsIn count (now (words .entry)) ⌝ }
 {
     if count == 0 {
-        return refused(Reason::FirstNotTimeStamp, 0, 0);
+        return Ends {
+            start: 0,
+            first: 0,
+            end: 0,
+            last: 0,
+            size: 0,
+        };
     }
+    let end = count - 1;
     let first = rows::row_at(words, 0);
-    if first.tag == 2 {
-        return ended(column, known, count, words, packed);
+    let last = rows::row_at(words, end);
+    Ends {
+        start: 0,
+        first: first.tag,
+        end,
+        last: last.tag,
+        size: (last.spot % 65536) as usize,
     }
-    refused(Reason::FirstNotTimeStamp, 0, first.tag)
+}
+
+// The first and the last row before that.
+fn closed(
+    column: &[u8; 128],
+    known: TagSet,
+    count: usize,
+    words: &[u64],
+    packed: Packed,
+) -> Outgoing
+    requires { ⌜ now column ≡ shapeColumn ⌝ }
+    ensures { λ r. ⌜ outgoingSaid r ≡ closedIn known count (now (words .entry)) packed ⌝ }
+{
+    match packet::check_ends(ends_of(count, words)) {
+        Right::Refused(refusal) => Outgoing::Refused(refusal),
+        Right::Yes => match judged(column, known, count, words) {
+            Right::Refused(refusal) => Outgoing::Refused(refusal),
+            Right::Yes => Outgoing::Fits(packed),
+        },
+    }
 }
 
 // The total size before that.
@@ -179,20 +200,20 @@ fn sized(column: &[u8; 128], known: TagSet, count: usize, words: &[u64]) -> Outg
     if 8192 < packed.size {
         return refused(Reason::PacketTooLong, 0, 0);
     }
-    begun(column, known, count, words, packed)
+    closed(column, known, count, words, packed)
 }
 
 // What count rows in lent words come to, with the buffer that text and carried rows point into: document 01's refusals of the
 // writer in their order, but for 18.
 pub fn check_rows(known: TagSet, count: usize, words: &[u64], buffer: &[u8]) -> Outgoing
-    ensures { λ r. ⌜ outgoingSaid r ≡ sizeOf (outgoing known count (now (words .entry)) (now (buffer .entry))) ⌝ }
+    ensures { λ r. ⌜ outgoingSaid r ≡ map packedOf (outgoing known count (now (words .entry)) (now (buffer .entry))) ⌝ }
 {
     if knowing::is_good(known) {
         if rows::is_good_count(count, words.len()) {
             let column = catalogue::shapes();
-            return match first_bad(&column, known, count, words, buffer.len()) {
-                First::At(refusal) => Outgoing::Refused(refusal),
-                First::None => sized(&column, known, count, words),
+            return match rows_right(&column, known, count, words, buffer.len()) {
+                Right::Refused(refusal) => Outgoing::Refused(refusal),
+                Right::Yes => sized(&column, known, count, words),
             };
         }
         return refused(Reason::RowCountTooLarge, 0, 0);

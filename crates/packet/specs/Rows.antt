@@ -16,6 +16,7 @@ use Rattle.catalogue.specs.declared.Shape.the-variants.{Text, Number, Absent}
 pub use Rattle.rows.specs.Meaning.{Row, meaningOf, kindOf, codeOf, isNumber}
 unfoldable pub use Rattle.rows.specs.Meaning.{shapeFor}
 use Rattle.rows.specs.Taken.{spotPlace, spotLength, rowSays, rowAt}
+pub use Rattle.rows.specs.declared.Filled.{Filled}
 use Rattle.packet.specs.Pieces.{Piece, Item}
 use Rattle.packet.specs.Judge.{Knowing}
 use Rattle.packet.specs.Verdict.{verdict}
@@ -46,9 +47,6 @@ lentVerdict K p t =
     cond (good K) (cond (ltb (length t) 512) (refused 2 0 0) (verdict (holds K) p)) (refused 1 0 0)
 
 -- the table of an accepted packet: how many rows it has
-pub record Filled : Type 0 where
-  pub count : ℕ
-
 abbrev pub filledBy : List Item → Filled
 filledBy is = record { count = length is }
 

@@ -7,17 +7,18 @@ use mathlib.Core.List.{List}
 use lib.ListN.{length, replicate}
 use lib.Seq.{sets}
 use borrow.Author.Tests.{lt-ltb, le-ltb}
-use Rattle.refusal.specs.Answer.{Answer, given, refused}
+use Rattle.refusal.specs.Answer.{given, refused, map}
+use Rattle.refusal.proofs.Answers.{not-given, map-given, map-refused}
 use Rattle.refusal.proofs.Laws.{refusal-apart}
 use Rattle.number.specs.Stored.{Bytes}
 use Rattle.tagset.specs.Sets.{holds}
 use Rattle.tagset.specs.declared.TagSet.{TagSet}
 use Rattle.knowing.specs.Good.{good}
 use Rattle.packet.specs.Pieces.{Item}
-use Rattle.packet.specs.Verdict.{counted, bodyOf, accepted, received, checked}
-use Rattle.packet.specs.Rows.{rowsOf, words, lentVerdict, readAnswer, tableBy, readTable}
+use Rattle.packet.specs.Verdict.{bodyOf, received, checked}
+use Rattle.packet.specs.Rows.{rowsOf, words, lentVerdict, filledBy, readAnswer, tableBy, readTable}
 use Rattle.packet.specs.declared.Accepted.{Accepted}
-use Rattle.packet.proofs.Accepting.{unaccepted, Accepting, accepting, walk-few}
+use Rattle.packet.proofs.Accepting.{Accepting, accepting, walk-few}
 use Rattle.reader.specs.Reads.{Reads, readSaid, Accepts, orNone, itemsOf}
 use Rattle.reader.specs.declared.Reading.{Reading}
 use Rattle.reader.specs.declared.Reading.the-variants.{Rows, Refused}
@@ -27,7 +28,7 @@ use Rattle.reader.proofs.Laws.{table-is}
 module _ (K : TagSet) (p t : List ℕ) where
   by-verdict : (n a g : ℕ) → lentVerdict K p t ≡ refused n a g → (r : Reading) → readSaid r ≡ refused n a g → Reads K p t r t
   unfolding readAnswer readTable
-  by-verdict n a g e r s = record { answer = s ∙ sym (ap counted e); table = sym (ap (tableBy (holds K) t) e) }
+  by-verdict n a g e r s = record { answer = s ∙ sym (ap (map filledBy) e); table = sym (ap (tableBy (holds K) t) e) }
 
   pub not-good : good K ≡ false → (r : Reading) → readSaid r ≡ refused 1 0 0 → Reads K p t r t
   unfolding lentVerdict
@@ -43,13 +44,9 @@ module _ (K : TagSet) (p t : List ℕ) where
       unfolding lentVerdict received
       lent-received = rw (g, le-ltb (length t) 512 room)
 
-      unreceived : (n a b : ℕ) (v : Answer (List Item)) → accepted v ≡ refused n a b → v ≡ refused n a b
-      unreceived n a b (given is) e = unaccepted (sym e)
-      unreceived n a b (refused m c d) e = cc
-
       pub refused-packet : (n a b : ℕ) → checked K p ≡ refused n a b → (r : Reading) → readSaid r ≡ refused n a b → Reads K p t r t
       unfolding checked
-      refused-packet n a b e r s = by-verdict n a b (lent-received ∙ unreceived n a b (received K p) e) r s
+      refused-packet n a b e r s = by-verdict n a b (lent-received ∙ map-refused bodyOf (received K p) n a b e) r s
 
       -- an accepted packet
       pub record Taken (b : Accepted) : Type 0 where
@@ -57,13 +54,9 @@ module _ (K : TagSet) (p t : List ℕ) where
         pub accepts : received K p ≡ given items
         pub body : b ≡ bodyOf items
 
-      taken-from : (b : Accepted) (v : Answer (List Item)) → received K p ≡ v → accepted v ≡ given b → Taken b
-      taken-from b (given is) q e = record { items = is; accepts = q; body = cc }
-      taken-from b (refused n a c) q e = unaccepted e
-
       pub taken : (b : Accepted) → checked K p ≡ given b → Taken b
       unfolding checked
-      taken b e = taken-from b (received K p) refl e
+      taken b e = let r = map-given bodyOf (received K p) e in record { items = r .0; accepts = r .1; body = sym (r .2) }
 
       module _ (by : Bytes p) (b : Accepted) (k : Taken b) where
         pub few : b .count ≤ 128
@@ -84,7 +77,7 @@ module _ (K : TagSet) (p t : List ℕ) where
             let n : b .count ≡ length (k .items) = ap (λ x. x .count) (k .body) in
             let q : t′ ≡ sets t 0 (words (rowsOf (holds K) (k .items))) = e ∙ ap (λ w. sets t 0 (words (rowsOf (holds K) (orNone w)))) (k .accepts) in
             record {
-              answer = ap given n ∙ sym (ap counted v);
+              answer = ap (λ m. given (record { count = m })) n ∙ sym (ap (map filledBy) v);
               table = f ∙ (ap (λ l. sets l (4 * b .count) (replicate (512 - 4 * b .count) 0)) q
                   ∙ (ap (λ m. sets (sets t 0 (words (rowsOf (holds K) (k .items)))) (4 * m) (replicate (512 - 4 * m) 0)) n
                   ∙ (table-is (holds K) (k .items) t (rw (← n) few) room
@@ -92,9 +85,7 @@ module _ (K : TagSet) (p t : List ℕ) where
             }
 
 pub read-apart : (a b : Reading) → readSaid a ≡ readSaid b → a ≡ b
-read-apart (Rows x) (Rows y) e =
-    let c : x .count ≡ y .count = cc in
-    λ i. Rows (record { count = c i })
-read-apart (Rows x) (Refused s) e = unaccepted (sym e)
-read-apart (Refused r) (Rows y) e = unaccepted e
+read-apart (Rows x) (Rows y) e = cc
+read-apart (Rows x) (Refused s) e = not-given (sym e)
+read-apart (Refused r) (Rows y) e = not-given e
 read-apart (Refused r) (Refused s) e = ap Refused (refusal-apart r s e)

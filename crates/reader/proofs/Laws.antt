@@ -4,7 +4,7 @@ use Prim.Native.Nat.{ℕ, suc, _+_, _-_, _*_, _%_, _^_, _<_, _≤_}
 use native.Mathlib.Omega.{arith}
 use native.Mathlib.Numerals.{add-one}
 use native.Mathlib.Nat.{add-zero, pow-le-pow-right, lt-of-lt-of-le}
-use mathlib.Core.Path.{_≡_, refl, ap, _∙_}
+use mathlib.Core.Path.{_≡_, refl, ap, sym, _∙_}
 use mathlib.Core.Bool.{Bool}
 use mathlib.Core.List.{List, [], _∷_, _++_, append-assoc}
 use lib.ListN.{length, set, take, drop, replicate, length-append, length-replicate, length-take, length-drop}
@@ -14,7 +14,9 @@ use Rattle.number.proofs.Laws.{bytes-take, bytes-drop, value-small}
 use Rattle.catalogue.specs.declared.Shape.{Shape}
 use Rattle.catalogue.specs.declared.Shape.the-variants.{Text, Number, Absent}
 use Rattle.packet.specs.Pieces.{Item}
-use Rattle.packet.specs.Rows.{Row, kindIn, codeIn, rowOf, rowsOf, words, tableOf}
+use Rattle.rows.specs.Meaning.{kindFor}
+use Rattle.rows.proofs.Laws.{kind-seen, code-seen}
+use Rattle.packet.specs.Rows.{Row, meaningOf, kindOf, codeOf, rowOf, rowsOf, words, tableOf}
 use Rattle.packet.specs.declared.Header.{Header}
 use Rattle.reader.specs.Reads.{putRow}
 
@@ -85,7 +87,10 @@ module _ (p : List ℕ) (by : Bytes p) (i : Header) (inside : i .place + i .size
       let f : v ≡ valueOf l % 2 ^ 64 = rw k at e in
       omega arith
 
-pub kind-by-code : (s : Shape) (x : ℕ) → kindIn s (codeIn s x) ≡ kindIn s x
-kind-by-code Text x = refl
-kind-by-code (Number w m) x = refl
-kind-by-code Absent x = refl
+-- the kind by the stored code is the kind of the value
+pub kind-by-code : (s : Shape) (v : List ℕ) → kindFor s (codeOf (meaningOf s v)) ≡ kindOf (meaningOf s v)
+kind-by-code Text v = refl
+kind-by-code (Number w m) v =
+    let code = code-seen (length v) v w m (valueOf v) in
+    ap (kindFor (Number w m)) code ∙ sym (kind-seen (length v) v (Number w m) (valueOf v))
+kind-by-code Absent v = refl

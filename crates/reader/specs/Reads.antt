@@ -4,18 +4,18 @@ use mathlib.Core.Path.{_≡_}
 use mathlib.Core.List.{List, [], _∷_}
 use lib.ListN.{drop}
 use lib.Seq.{sets}
-use Rattle.refusal.specs.Answer.{Answer, given, refused, refusal}
+use Rattle.refusal.specs.Answer.{Answer, given, refusal, orElse}
 use Rattle.tagset.specs.declared.TagSet.{TagSet}
 use Rattle.catalogue.specs.declared.Shape.{Shape}
 use Rattle.catalogue.specs.declared.Shape.the-variants.{Text, Number, Absent}
 use Rattle.packet.specs.Pieces.{Item, walk}
 use Rattle.packet.specs.Verdict.{received}
-use Rattle.packet.specs.Rows.{Row, readAnswer, readTable}
+use Rattle.packet.specs.Rows.{Row, Filled, readAnswer, readTable}
 use Rattle.reader.specs.declared.Reading.{Reading}
 use Rattle.reader.specs.declared.Reading.the-variants.{Rows, Refused}
 
-abbrev pub readSaid : Reading → Answer ℕ
-readSaid (Rows f) = given (f .count)
+abbrev pub readSaid : Reading → Answer Filled
+readSaid (Rows f) = given f
 readSaid (Refused r) = refusal r
 
 pub record Reads (K : TagSet) (p t : List ℕ) (r : Reading) (t′ : List ℕ) : Type 0 where
@@ -34,8 +34,7 @@ Narrow Absent n = Unit {0}
 
 -- the items of an accepted packet
 abbrev pub orNone : Answer (List Item) → List Item
-orNone (given is) = is
-orNone (refused n p t) = []
+orNone = orElse [] (λ is. is)
 
 abbrev pub itemsOf : TagSet → List ℕ → List Item
 itemsOf K p = orNone (received K p)

@@ -6,11 +6,10 @@ ghost use lib.ListN.{length, replicate};
 ghost use lib.Seq.{sets};
 ghost use Rattle.refusal.specs.Numbers.{number};
 ghost use Rattle.refusal.specs.Answer.{refused as refusedBy};
-ghost use Rattle.number.specs.Stored.{valueOf};
 ghost use Rattle.tagset.specs.Sets.{holds};
 ghost use Rattle.catalogue.specs.Column.{shapeColumn};
 ghost use Rattle.packet.specs.Headers.{itemBy};
-ghost use Rattle.packet.specs.Rows.{codeIn, shapeFor, rowOf, rowsOf, words};
+ghost use Rattle.packet.specs.Rows.{meaningOf, codeOf, shapeFor, rowOf, rowsOf, words};
 ghost use Rattle.reader.specs.Reads.{Reads, readSaid, putRow, Narrow, Accepts, itemsOf};
 use catalogue::Shape;
 use packet::Checked;
@@ -18,13 +17,9 @@ use packet::Header;
 use packet::Step;
 use refusal::Reason;
 use refusal::Refusal;
+use rows::Filled;
 use rows::RowWords;
 use tagset::TagSet;
-
-// The table of an accepted packet: how many rows it has.
-pub struct Filled {
-    pub count: usize,
-}
 
 pub enum Reading {
     Rows(Filled),
@@ -44,7 +39,7 @@ fn refused(reason: Reason) -> Reading
 // The code of a value of a shape: 0 for text and carried.
 fn code_at(packet: &[u8], shape: Shape, item: Header) -> u64
     requires { ⌜ (item .place + item .size ≤ length (now packet)) × Narrow shape (item .size) ⌝ }
-    ensures { λ r. ⌜ r ≡ codeIn shape (valueOf (itemBy (now (packet .entry)) item .piece .value)) ⌝ }
+    ensures { λ r. ⌜ r ≡ codeOf (meaningOf shape (itemBy (now (packet .entry)) item .piece .value)) ⌝ }
 {
     match shape {
         Shape::Text => 0,

@@ -37,6 +37,10 @@ module _ {A B : Type 0} where
   map-given f (given x) e = (x, refl, given-same e)
   map-given f (refused n p t) e = not-given e
 
+  pub map-refused : (f : A → B) (a : Answer A) (n p t : ℕ) → map f a ≡ refused n p t → a ≡ refused n p t
+  map-refused f (given x) n p t e = never (cc)
+  map-refused f (refused m q u) n p t e = cc
+
   -- two steps are the same where they are for all that the first answer may give
   pub then-same : (a : Answer A) (f g : A → Answer B) → ((x : A) → a ≡ given x → f x ≡ g x) → then a f ≡ then a g
   then-same (given x) f g h = h x refl

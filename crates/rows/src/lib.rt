@@ -25,6 +25,11 @@ pub struct RowWords {
     pub spot: u64,
 }
 
+// A filled table: how many rows it has.
+pub struct Filled {
+    pub count: usize,
+}
+
 // Document 01's numbers of the kinds.
 pub const READING: u64 = 1;
 

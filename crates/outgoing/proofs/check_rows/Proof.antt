@@ -6,7 +6,7 @@ use mathlib.Core.Path.{sym, ap, _∙_}
 use lib.ListN.{length}
 use Rattle.tagset.proofs.Laws.{Words}
 use Rattle.rows.proofs.Laws.{count-good}
-use Rattle.outgoing.specs.Staged.{firstSaid}
+use Rattle.packet.specs.Concluded.{rightSaid}
 use Rattle.outgoing.proofs.Stages.{rows-good, rows-bad, too-many, not-good}
 use Rattle.outgoing.proofs.check_rows.Statement.{statement}
 use Rattle.outgoing.proofs.check_rows.Tie as tie
@@ -23,8 +23,8 @@ is-good-count-requires c κs = search needs
 shapes-requires : tie.Need-shapes-requires
 shapes-requires c κs = search needs
 
-first-bad-requires : tie.Need-first-bad-requires
-first-bad-requires c κs = c .before .shapes .ensures
+rows-right-requires : tie.Need-rows-right-requires
+rows-right-requires c κs = c .before .shapes .ensures
 
 enum-known-refusal : tie.Need-enum-known-refusal
 enum-known-refusal c = search needs
@@ -43,7 +43,7 @@ returns c =
     let f = c .before .before .before in
     let k = f .before .before .before in
     sym (rows-bad _ (words k) _ _ _ (sym (k .before .before .before .is-good .ensures) ∙ k .before .before .if1 .taken) (sym (k .before .is-good-count .ensures) ∙ k .if2 .taken) _ _ _
-    (sym (f .first-bad .ensures) ∙ ap firstSaid (c .before .refusal .given .1)))
+    (sym (f .rows-right .ensures) ∙ ap rightSaid (c .before .refusal .given .1)))
 
 returns-2 : tie.Need-returns-2
 returns-2 c =
@@ -51,7 +51,7 @@ returns-2 c =
     let k = f .before .before .before in
     c .sized .ensures
     ∙ sym (rows-good _ (words k) _ _ _ (sym (k .before .before .before .is-good .ensures) ∙ k .before .before .if1 .taken) (sym (k .before .is-good-count .ensures) ∙ k .if2 .taken)
-    (sym (f .first-bad .ensures) ∙ ap firstSaid (c .before .before .enum-told .given .1)))
+    (sym (f .rows-right .ensures) ∙ ap rightSaid (c .before .before .enum-told .given .1)))
 
 refused-requires : tie.Need-refused-requires
 refused-requires c κs = search needs
@@ -75,7 +75,7 @@ check-rows-spec =
     is-good-requires
     is-good-count-requires
     shapes-requires
-    first-bad-requires
+    rows-right-requires
     enum-known-refusal
     enum-told
     sized-requires

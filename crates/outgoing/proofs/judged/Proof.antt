@@ -13,10 +13,10 @@ use Rattle.outgoing.proofs.judged.Statement.{statement}
 use Rattle.outgoing.proofs.judged.Tie as tie
 
 abbrev Inv-loop : tie.InvT-loop
-Inv-loop column known count words packed seen₀ n₀ seen n = rowsJudged known seen n (rowsIn n (count - n) words) packed ≡ rowsJudged known noTags 0 (rowsIn 0 count words) packed
+Inv-loop column known count words seen₀ n₀ seen n = rowsJudged known seen n (rowsIn n (count - n) words) ≡ rowsJudged known noTags 0 (rowsIn 0 count words)
 
 abbrev μ-loop : tie.MeasureT-loop
-μ-loop column known count words packed seen₀ n₀ seen n = count - n
+μ-loop column known count words seen₀ n₀ seen n = count - n
 
 loop-holds : tie.Need-loop-holds Inv-loop μ-loop
 loop-holds c = rw sub-zero
@@ -30,16 +30,12 @@ fault-at-requires c κs = c .before .before .before .before .pre
 enum-known-reason : tie.Need-enum-known-reason Inv-loop μ-loop
 enum-known-reason c = search needs
 
-refused-requires : tie.Need-refused-requires Inv-loop μ-loop
-refused-requires c κs = search needs
-
 returns : tie.Need-returns Inv-loop μ-loop
 returns c =
-    let f = c .before .before .before .before in
+    let f = c .before .before .before in
     let l = f .before .before .before in
-    c .refused .ensures
-    ∙ (sym (judged-wrong _ _ _ (f .before .before .loop-test .taken) _ (f .before .row-at .ensures) _ _ _ _ (sym (ap faultSaid (c .before .before .reason .given .1)) ∙ f .fault-at .ensures))
-    ∙ l .loop .inv)
+    sym (judged-wrong _ _ _ (f .before .before .loop-test .taken) _ (f .before .row-at .ensures) _ _ _ (sym (ap faultSaid (c .before .reason .given .1)) ∙ f .fault-at .ensures))
+    ∙ l .loop .inv
 
 enum-told : tie.Need-enum-told Inv-loop μ-loop
 enum-told c = search needs
@@ -58,7 +54,7 @@ loop-again c =
     let f = c .before .before .before in
     let l = f .before .before .before in
     rw (c .with-tag .ensures)
-    (sym (judged-more _ _ _ (f .before .before .loop-test .taken) _ (f .before .row-at .ensures) _ _ _ (sym (ap faultSaid (c .before .enum-told .given .1)) ∙ f .fault-at .ensures))
+    (sym (judged-more _ _ _ (f .before .before .loop-test .taken) _ (f .before .row-at .ensures) _ _ (sym (ap faultSaid (c .before .enum-told .given .1)) ∙ f .fault-at .ensures))
     ∙ l .loop .inv)
 
 has-requires : tie.Need-has-requires Inv-loop μ-loop
@@ -69,20 +65,16 @@ returns-2 c =
     let l = c .before .before in
     let a = l .before .before .before .args in
     let h = sym (c .before .has .ensures) ∙ c .if1 .taken in
-    sym (rw h at (judged-end (a .words .now) (a .count) (l .before .loop .n) (a .known) (l .before .loop .seen) (a .packed) (l .loop-test .left)))
+    sym (rw h at (judged-end (a .words .now) (a .count) (l .before .loop .n) (a .known) (l .before .loop .seen) (l .loop-test .left)))
     ∙ l .before .loop .inv
-
-refused-requires-2 : tie.Need-refused-requires-2 Inv-loop μ-loop
-refused-requires-2 c κs = search needs
 
 returns-3 : tie.Need-returns-3 Inv-loop μ-loop
 returns-3 c =
-    let l = c .before .before .before in
+    let l = c .before .before in
     let a = l .before .before .before .args in
-    let h = sym (c .before .before .has .ensures) ∙ c .before .if1 .left in
-    c .refused2 .ensures
-    ∙ (sym (rw h at (judged-end (a .words .now) (a .count) (l .before .loop .n) (a .known) (l .before .loop .seen) (a .packed) (l .loop-test .left)))
-    ∙ l .before .loop .inv)
+    let h = sym (c .before .has .ensures) ∙ c .if1 .left in
+    sym (rw h at (judged-end (a .words .now) (a .count) (l .before .loop .n) (a .known) (l .before .loop .seen) (l .loop-test .left)))
+    ∙ l .before .loop .inv
 
 pub judged-spec : {M : Type 1} → statement M
 judged-spec =
@@ -94,7 +86,6 @@ judged-spec =
     row-at-requires
     fault-at-requires
     enum-known-reason
-    refused-requires
     returns
     enum-told
     with-tag-requires
@@ -103,5 +94,4 @@ judged-spec =
     loop-again
     has-requires
     returns-2
-    refused-requires-2
     returns-3)

@@ -4,7 +4,7 @@ use borrow.Author.Needs.{needs}
 use mathlib.Core.Path.{_≡_, sym, ap, _∙_}
 use borrow.Author.Tests.{lt-ltb, le-ltb}
 use Rattle.refusal.specs.Answer.{refused}
-use Rattle.outgoing.specs.Staged.{begunIn, sizedBy}
+use Rattle.outgoing.specs.Staged.{closedIn, sizedBy}
 use Rattle.outgoing.proofs.sized.Statement.{statement}
 use Rattle.outgoing.proofs.sized.Tie as tie
 
@@ -21,16 +21,16 @@ returns c =
     let step : sizedBy (a .known) (a .count) (a .words .now) (z .result) ≡ refused 3 0 0 = rw (lt-ltb 8192 (z .result .size) (c .before .if1 .taken)) in
     c .refused .ensures ∙ (sym step ∙ ap (sizedBy (a .known) (a .count) (a .words .now)) (z .ensures))
 
-begun-requires : tie.Need-begun-requires
-begun-requires c κs = search needs
+closed-requires : tie.Need-closed-requires
+closed-requires c κs = search needs
 
 returns-2 : tie.Need-returns-2
 returns-2 c =
     let a = c .before .before .before .before .before .args in
     let z = c .before .before .before .packet-size in
-    let step : sizedBy (a .known) (a .count) (a .words .now) (z .result) ≡ begunIn (a .known) (a .count) (a .words .now) (z .result) = rw (le-ltb 8192 (z .result .size) (c .before .if1 .left)) in
-    c .begun .ensures ∙ (sym step ∙ ap (sizedBy (a .known) (a .count) (a .words .now)) (z .ensures))
+    let step : sizedBy (a .known) (a .count) (a .words .now) (z .result) ≡ closedIn (a .known) (a .count) (a .words .now) (z .result) = rw (le-ltb 8192 (z .result .size) (c .before .if1 .left)) in
+    c .closed .ensures ∙ (sym step ∙ ap (sizedBy (a .known) (a .count) (a .words .now)) (z .ensures))
 
 pub sized-spec : {M : Type 1} → statement M
 sized-spec =
-    tie.close (tie.spec packet-size-requires refused-requires returns begun-requires returns-2)
+    tie.close (tie.spec packet-size-requires refused-requires returns closed-requires returns-2)

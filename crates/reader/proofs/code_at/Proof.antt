@@ -1,6 +1,8 @@
 -- `reader::code_at` meets its contract.
 -- Assumes nothing.
 use borrow.Author.Needs.{needs}
+use lib.ListN.{take, drop}
+use Rattle.rows.proofs.Laws.{code-seen}
 use Rattle.reader.proofs.Laws.{narrow-value}
 use Rattle.reader.proofs.code_at.Statement.{statement}
 use Rattle.reader.proofs.code_at.Tie as tie
@@ -39,7 +41,7 @@ returns-3 : tie.Need-returns-3
 returns-3 c =
     let a = c .before .before .before .before .before .before in
     let shape = c .before .before .before .enum-told3 .given .1 in
-    rw shape
+    rw (shape, code-seen _ (take (a .args .item .size) (drop (a .args .item .place) (a .args .packet .now))))
     (narrow-value (a .args .packet .now) (record { byte = λ i. c .before .before .before .before .before .shared-slice-known .given i .fits }) (a .args .item) (a .pre .0) (rw shape at (a .pre .1)) _ (c .value .ensures))
 
 pub code-at-spec : {M : Type 1} → statement M

@@ -4,10 +4,10 @@ use borrow.Author.Needs.{needs}
 use mathlib.Core.Path.{_≡_, sym, ap, _∙_}
 use Prim.Native.Nat.{_+_, _*_}
 use lib.ListN.{take, drop}
-use Rattle.number.specs.Stored.{valueOf}
 use Rattle.tagset.specs.Sets.{holds}
 use Rattle.rows.proofs.Laws.{shape-by-column}
-use Rattle.packet.specs.Rows.{shapeFor, kindIn, codeIn, rowOf}
+use Rattle.rows.specs.Meaning.{kindFor}
+use Rattle.packet.specs.Rows.{shapeFor, meaningOf, codeOf, rowOf}
 use Rattle.reader.proofs.Laws.{value-length, kind-by-code}
 use Rattle.reader.proofs.row_of.Statement.{statement}
 use Rattle.reader.proofs.row_of.Tie as tie
@@ -37,10 +37,10 @@ returns c =
     let i = s .args .item in
     let p = s .args .packet .now in
     let S = shapeFor (holds (s .args .known)) (i .tag) in
-    let x = valueOf (take (i .size) (drop (i .place) p)) in
+    let v = take (i .size) (drop (i .place) p) in
     let shape = shaped (c .before .before) in
-    let code = c .before .code-at .ensures ∙ ap (λ h. codeIn h x) shape in
-    let kind = c .kind-of .ensures ∙ (ap (λ h. kindIn h (c .before .code-at .result)) shape ∙ (ap (kindIn S) code ∙ kind-by-code S x)) in
+    let code = c .before .code-at .ensures ∙ ap (λ h. codeOf (meaningOf h v)) shape in
+    let kind = c .kind-of .ensures ∙ (ap (λ h. kindFor h (c .before .code-at .result)) shape ∙ (ap (kindFor S) code ∙ kind-by-code S v)) in
     let size = value-length p (record { byte = λ k. c .before .before .before .shared-slice-known .given k .fits }) i (s .pre .1) in
     λ k. record { tag = i .tag; kind = kind k; code = code k; spot = i .place * 65536 + sym size k }
 

@@ -1,22 +1,20 @@
--- `outgoing::first_bad` meets its contract.
+-- `outgoing::rows_right` meets its contract.
 -- Assumes nothing.
 use borrow.Author.Needs.{needs}
 use native.Mathlib.Nat.{sub-zero}
 use native.Mathlib.Omega.{arith}
 use Prim.Native.Nat.{_-_}
 use mathlib.Core.Path.{_≡_, sym, _∙_}
-use mathlib.Core.List.{[]}
-use Rattle.refusal.specs.Answer.{given}
 use Rattle.tagset.specs.Sets.{holds}
 use Rattle.rows.proofs.Laws.{shape-by-column}
 use Rattle.packet.specs.Rows.{rowsIn}
-use Rattle.outgoing.specs.Outgoing.{goodFrom}
+use Rattle.outgoing.specs.Outgoing.{rightRows}
 use Rattle.outgoing.proofs.Walked.{good-more, good-bad, good-end}
-use Rattle.outgoing.proofs.first_bad.Statement.{statement}
-use Rattle.outgoing.proofs.first_bad.Tie as tie
+use Rattle.outgoing.proofs.rows_right.Statement.{statement}
+use Rattle.outgoing.proofs.rows_right.Tie as tie
 
 abbrev Inv-loop : tie.InvT-loop
-Inv-loop column known count words room n₀ n = goodFrom (holds known) room n (rowsIn n (count - n) words) (given []) ≡ goodFrom (holds known) room 0 (rowsIn 0 count words) (given [])
+Inv-loop column known count words room n₀ n = rightRows (holds known) room n (rowsIn n (count - n) words) ≡ rightRows (holds known) room 0 (rowsIn 0 count words)
 
 abbrev μ-loop : tie.MeasureT-loop
 μ-loop column known count words room n₀ n = count - n
@@ -45,7 +43,7 @@ loop-again c =
     let l = s .before .before .before in
     let a = l .before .before .args in
     let shape = s .shape-for .ensures ∙ shape-by-column (holds (a .known)) _ (s .before .row-at .result .tag) (l .before .before .pre) in
-    sym (good-more _ _ _ (s .before .before .loop-test .taken) _ (s .before .row-at .ensures) (holds (a .known)) (a .room) _ shape (given []) (sym (c .before .is-good-row .ensures) ∙ c .if1 .taken))
+    sym (good-more _ _ _ (s .before .before .loop-test .taken) _ (s .before .row-at .ensures) (holds (a .known)) (a .room) _ shape (sym (c .before .is-good-row .ensures) ∙ c .if1 .taken))
     ∙ l .loop .inv
 
 tag-shown-requires : tie.Need-tag-shown-requires Inv-loop μ-loop
@@ -58,14 +56,14 @@ returns c =
     let a = l .before .before .args in
     let shape = s .shape-for .ensures ∙ shape-by-column (holds (a .known)) _ (s .before .row-at .result .tag) (l .before .before .pre) in
     rw (c .tag-shown .ensures)
-    (sym (good-bad _ _ _ (s .before .before .loop-test .taken) _ (s .before .row-at .ensures) (holds (a .known)) (a .room) _ shape (given []) (sym (c .before .before .is-good-row .ensures) ∙ c .before .if1 .left))
+    (sym (good-bad _ _ _ (s .before .before .loop-test .taken) _ (s .before .row-at .ensures) (holds (a .known)) (a .room) _ shape (sym (c .before .before .is-good-row .ensures) ∙ c .before .if1 .left))
     ∙ l .loop .inv)
 
 returns-2 : tie.Need-returns-2 Inv-loop μ-loop
-returns-2 c = sym (good-end _ _ _ _ _ (given []) (c .loop-test .left)) ∙ c .before .loop .inv
+returns-2 c = sym (good-end _ _ _ _ _ (c .loop-test .left)) ∙ c .before .loop .inv
 
-pub first-bad-spec : {M : Type 1} → statement M
-first-bad-spec =
+pub rows-right-spec : {M : Type 1} → statement M
+rows-right-spec =
     tie.close
     (tie.spec
     Inv-loop
