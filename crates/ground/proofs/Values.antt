@@ -17,6 +17,7 @@ use Rattle.packet.specs.Rows.{rowsIn}
 use Rattle.laws.proofs.Tables.{rows-from, rows-none}
 use Rattle.scale.specs.Conversions.{toHouse}
 use Rattle.scale.specs.Said.{houseSaid}
+use Rattle.scale.specs.declared.House.{House}
 use Rattle.scale.specs.declared.ToHouse.{ToHouse}
 use Rattle.scale.proofs.Whole.{sum-fits}
 use Rattle.scale.proofs.Given.{house-small}
@@ -50,8 +51,8 @@ module _ (t : ℕ) (w : List ℕ) (n count : ℕ) where
   no-row h = rw (rows-none w n count h)
 
 -- what a row says is small enough to be added
-house-is-small : (t code : ℕ) (a : Answer ℤ) → toHouse t code ≡ a → Small (inHouse a)
-house-is-small t code (given v) e = house-small t code v e
+house-is-small : (t code : ℕ) (a : Answer House) → toHouse t code ≡ a → Small (inHouse a)
+house-is-small t code (given h) e = house-small t code h e
 house-is-small t code (refused n p u) e = tt
 
 row-small : (r : Row) → Small (valueBy r)

@@ -4,17 +4,17 @@ use Prim.Native.Nat.{ℕ, _^_, _<_}
 use mathlib.Core.Bool.{cond, _&&_}
 use mathlib.Core.List.{List, [], _∷_}
 use lib.Dec.{ltb, eqb}
-use lib.IntN.{ℤ}
 use lib.Signed.{mag}
 use Rattle.refusal.specs.Answer.{Answer, given, refused}
 use Rattle.rows.specs.Kinds.{Row}
 use Rattle.scale.specs.Conversions.{toHouse}
+use Rattle.scale.specs.declared.House.{House}
 use Rattle.ground.specs.declared.Value.{Value}
 use Rattle.ground.specs.declared.Value.the-variants.{Absent, Off, At}
 
 -- a code turned into house units; what is no number is never a place on the Earth
-abbrev pub inHouse : Answer ℤ → Value
-inHouse (given v) = At v
+abbrev pub inHouse : Answer House → Value
+inHouse (given h) = At (h .value)
 inHouse (refused n p t) = Off
 
 -- a row that is present: a mark is off the Earth, a reading is in house units

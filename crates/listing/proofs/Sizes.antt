@@ -23,6 +23,7 @@ use Rattle.packet.specs.Allowed.{ItemsOf, noMore, another, Formed}
 use Rattle.packet.specs.Verdict.{received}
 use Rattle.packet.specs.Rows.{rowOf, rowsOf, bytesAt}
 use Rattle.scale.specs.Conversions.{toHouse}
+use Rattle.scale.specs.declared.House.{House}
 use Rattle.laws.proofs.Structure.{passed}
 use Rattle.laws.proofs.Accepted.{accepted-allowed}
 use Rattle.laws.proofs.Written.{Tagged}
@@ -47,8 +48,8 @@ unfolding whole
 whole-most (pos n) = omega (arith, decimal-few n)
 whole-most (negsuc n) = omega (arith, decimal-few (suc n))
 
-pub number-most : (a : Answer ℤ) (code : ℕ) → length (numberText a code) ≤ 21
-number-most (given v) code = whole-most v
+pub number-most : (a : Answer House) (code : ℕ) → length (numberText a code) ≤ 21
+number-most (given h) code = whole-most (h .value)
 number-most (refused n p t) code = omega (arith, decimal-few code)
 
 content-short : (p : List ℕ) (r : Row) → length (contentText p r) ≤ 28 + 2 * length (bytesAt p r)

@@ -3,12 +3,12 @@ use Prim.Native.Nat.{ℕ}
 use mathlib.Core.Bool.{cond}
 use mathlib.Core.List.{List, [], _∷_, _++_}
 use lib.Dec.{eqb}
-use lib.IntN.{ℤ}
 use Rattle.refusal.specs.Answer.{Answer, given, refused}
 use Rattle.rows.specs.Kinds.{Row}
 use Rattle.rows.specs.Taken.{spotPlace}
 use Rattle.packet.specs.Rows.{bytesAt}
 use Rattle.scale.specs.Conversions.{toHouse}
+use Rattle.scale.specs.declared.House.{House}
 use Rattle.spelling.specs.Spelling.{decimal, whole, hex}
 
 -- "place", "tag", "kind", "value", with the tabs between them and the end of the line
@@ -43,8 +43,8 @@ unfoldable pub field : ℕ → List ℕ
 field n = decimal n ++ tab
 
 -- "A number is in house units where scaled, else the code"
-abbrev pub numberText : Answer ℤ → ℕ → List ℕ
-numberText (given v) code = whole v
+abbrev pub numberText : Answer House → ℕ → List ℕ
+numberText (given h) code = whole (h .value)
 numberText (refused n p t) code = decimal code
 
 -- kind and value: "a mark prints "-"; text and carried print upper-case hex, nothing if empty"

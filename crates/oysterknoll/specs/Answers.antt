@@ -6,6 +6,8 @@ use Rattle.tagset.specs.declared.TagSet.{TagSet}
 use Rattle.rows.specs.declared.Content.{Content}
 use Rattle.rows.specs.declared.Content.the-variants.{Reading, Mark, Text, Carried}
 use Rattle.rows.specs.declared.Row.{Row}
+use Rattle.scale.specs.declared.House.{House}
+use Rattle.scale.specs.declared.Code.{Code}
 use Rattle.packet.specs.declared.Accepted.{Accepted}
 use Rattle.ground.specs.Ground.{HeightSeen, noHeight, overEllipsoid, overSeaLevel, CornerSeen, noCorner, offTheEarth, on}
 use Rattle.oysterknoll.specs.declared.Answer.{Answer as Struct}
@@ -30,8 +32,11 @@ saying say (refused n place tag) = refusing n place tag
 abbrev pub items : Accepted → Struct
 items a = counting (a .count)
 
-abbrev pub valuing : ℤ → Struct
-valuing v = measuring 0 v (pos 0)
+abbrev pub valuing : House → Struct
+valuing h = measuring 0 (h .value) (pos 0)
+
+abbrev pub coding : Code → Struct
+coding c = counting (c .code)
 
 -- 0 missing, 1 over the ellipsoid, 2 over mean sea level
 abbrev pub heightAnswer : HeightSeen → Struct

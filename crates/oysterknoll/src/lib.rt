@@ -11,7 +11,8 @@ ghost use Rattle.relay.specs.Forwards.{forwardAnswer, forwardOutput};
 ghost use Rattle.ground.specs.Said.{heightSaid};
 ghost use Rattle.ground.specs.Ground.{sensorHeight, frameCentreHeight, cornerOf};
 ghost use Rattle.refusal.specs.Numbers.{number};
-ghost use Rattle.oysterknoll.specs.Answers.{knowing, saying, counting, measuring, valuing, refusing, items, heightAnswer, cornerAnswer, holding, rowAnswer};
+ghost use Rattle.oysterknoll.specs.Answers.{knowing, saying, counting, measuring, valuing, coding, refusing, items};
+ghost use Rattle.oysterknoll.specs.Answers.{heightAnswer, cornerAnswer, holding, rowAnswer};
 ghost use Rattle.oysterknoll.specs.Listing.{listAnswer, listOutput};
 use ground::Corner;
 use ground::Height;
@@ -200,7 +201,7 @@ pub extern "C" fn oyk_to_house(tag: u64, code: u64) -> Answer
 // The code of an item that is nearest to a value in house units.
 #[no_mangle]
 pub extern "C" fn oyk_to_code(tag: u64, value: i64) -> Answer
-    ensures { λ r. ⌜ r ≡ saying counting (toCode tag value) ⌝ }
+    ensures { λ r. ⌜ r ≡ saying coding (toCode tag value) ⌝ }
 {
     match scale::to_code(tag, value) {
         ToCode::Refused(refusal) => refused(refusal),

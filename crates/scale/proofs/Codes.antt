@@ -18,6 +18,7 @@ use Rattle.scale.specs.Scales.{codes, origin, reach, steps, isNumber, is
 use Rattle.scale.specs.Conversions.{codeOf, toCode}
 use Rattle.scale.specs.Exact.{miss}
 use Rattle.scale.specs.Rule.{Rule}
+use Rattle.scale.specs.declared.Code.{Code}
 use Rattle.scale.proofs.Whole.{sided}
 use Rattle.scale.proofs.Sides.{side-drop, side-nearest, side-tie, other-side-tie}
 use Rattle.scale.proofs.Items.{number-fits}
@@ -110,7 +111,7 @@ module _ (i : Item) (r : Rule i) where
   unfolding c
   nearest-code v inside number = record { none-nearer = λ d n. closest v inside d; tie-away = away v inside number }
 
-pub code-nearest : (t : ℕ) (v : ℤ) (i : Item) (code : ℕ) → itemOf t ≡ Known i → toCode t v ≡ given code → NearestCode i v code
-code-nearest t v i code e h =
-    let g = code-given t v i code e h in
-    rw (g .value) (nearest-code i (scaled-rule (g .scale)) v (g .inside) (code-is-number (g .scale) v (g .inside)))
+pub code-nearest : (t : ℕ) (v : ℤ) (i : Item) (c : Code) → itemOf t ≡ Known i → toCode t v ≡ given c → NearestCode i v (c .code)
+code-nearest t v i c e p =
+    let g = code-given t v i c e p in
+    rw (g .made) (nearest-code i (scaled-rule (g .scale)) v (g .inside) (code-is-number (g .scale) v (g .inside)))

@@ -5,7 +5,6 @@ use native.Mathlib.Omega.{arith}
 use mathlib.Core.Path.{_≡_, refl, ap, _∙_}
 use lib.IntN.{pos, negℤ, +ℤ-idl}
 use borrow.Author.Tests.{lt-ltb, le-leb, lt-leb}
-use Rattle.refusal.specs.Answer.{given}
 use Rattle.catalogue.specs.Items.{groups, member, itemIn, itemOf}
 use Rattle.catalogue.specs.declared.Item.{Item}
 use Rattle.catalogue.specs.declared.Sign.the-variants.{Signed}
@@ -13,7 +12,7 @@ use Rattle.scale.specs.Nearest.{nearest}
 use Rattle.scale.specs.Scales.{codes, half, origin, reach, steps}
 use Rattle.scale.specs.Conversions.{houseOf, toHouse}
 use Rattle.scale.proofs.Nearest.{nearest-whole}
-use Rattle.scale.proofs.Given.{Scaled, every-code-converts}
+use Rattle.scale.proofs.Given.{Scaled, every-code-converts, Gives}
 
 temperature : Item
 temperature = record { tag = 39; width = 1; sign = Signed; low = negℤ (pos 128000); high = pos 127000 }
@@ -25,14 +24,12 @@ item-39 = record { known = refl; has-scale = refl }
 thousands : (n : ℕ) → nearest (n * 127000) 127 ≡ n * 1000
 thousands n = ap (λ p. nearest p 127) (let e : n * 127000 ≡ 127 * (n * 1000) = omega arith in e) ∙ nearest-whole (n * 1000) 127 (omega arith)
 
-pub degrees-above : (code : ℕ) → code < 128 → toHouse 39 code ≡ given (pos (code * 1000))
+pub degrees-above : (code : ℕ) → code < 128 → Gives (toHouse 39 code) (λ h. h .value ≡ pos (code * 1000))
 unfolding temperature codes half origin reach steps houseOf
 degrees-above code h =
-    every-code-converts item-39 code (rw (lt-ltb code 256 (omega arith)))
-    ∙ rw (lt-leb 128 code h, thousands code) (ap given (+ℤ-idl (pos (code * 1000))))
+    rw (every-code-converts item-39 code (rw (lt-ltb code 256 (omega arith))), lt-leb 128 code h, thousands code) (+ℤ-idl (pos (code * 1000)))
 
-pub degrees-below : (code : ℕ) → 128 ≤ code → code < 256 → toHouse 39 code ≡ given (negℤ (pos ((256 - code) * 1000)))
+pub degrees-below : (code : ℕ) → 128 ≤ code → code < 256 → Gives (toHouse 39 code) (λ h. h .value ≡ negℤ (pos ((256 - code) * 1000)))
 unfolding temperature codes half origin reach steps houseOf
 degrees-below code h k =
-    every-code-converts item-39 code (rw (lt-ltb code 256 k))
-    ∙ rw (le-leb 128 code h, thousands (256 - code)) (ap given (+ℤ-idl (negℤ (pos ((256 - code) * 1000)))))
+    rw (every-code-converts item-39 code (rw (lt-ltb code 256 k)), le-leb 128 code h, thousands (256 - code)) (+ℤ-idl (negℤ (pos ((256 - code) * 1000))))

@@ -11,13 +11,15 @@ use lib.Signed.{mag, ltZ}
 use Rattle.base.specs.Cases.{byBool, never}
 use Rattle.base.specs.Every.{both-true}
 use borrow.Author.Tests.{lt-ltb}
-use Rattle.refusal.specs.Answer.{given, refused}
+use Rattle.refusal.specs.Answer.{Answer, given, refused}
 use Rattle.catalogue.specs.Items.{itemOf}
 use Rattle.catalogue.specs.declared.Item.{Item}
 use Rattle.catalogue.specs.declared.Found.{Found}
 use Rattle.catalogue.specs.declared.Found.the-variants.{Known, Absent}
 use Rattle.scale.specs.Scales.{scaled, codes, isNumber, isOutside}
-use Rattle.scale.specs.Conversions.{houseOf, houseBy, toHouse, codeOf, codeBy, toCode}
+use Rattle.scale.specs.Conversions.{houseOf, houseGiven, houseBy, toHouse, codeOf, codeGiven, codeBy, toCode}
+use Rattle.scale.specs.declared.House.{House}
+use Rattle.scale.specs.declared.Code.{Code}
 use Rattle.scale.specs.Rule.{Rule}
 use Rattle.scale.proofs.Rule.{rule}
 use Rattle.scale.proofs.Whole.{inside-small}
@@ -33,7 +35,7 @@ pub scaled-rule : {t : ℕ} {i : Item} → Scaled t i → Rule i
 scaled-rule {t} {i} s = rule t i (s .known) (s .has-scale)
 
 module _ {t : ℕ} {i : Item} (s : Scaled t i) where
-  pub every-code-converts : (code : ℕ) → isNumber i code ≡ true → toHouse t code ≡ given (houseOf i code)
+  pub every-code-converts : (code : ℕ) → isNumber i code ≡ true → toHouse t code ≡ given (houseGiven i code)
   unfolding toHouse
   every-code-converts code e = rw (s .known, s .has-scale, e)
 
@@ -41,7 +43,7 @@ module _ {t : ℕ} {i : Item} (s : Scaled t i) where
   unfolding toHouse
   no-number-20 code e = rw (s .known, s .has-scale, e)
 
-  pub every-value-converts : (v : ℤ) → isOutside i v ≡ false → toCode t v ≡ given (codeOf i v)
+  pub every-value-converts : (v : ℤ) → isOutside i v ≡ false → toCode t v ≡ given (codeGiven i v)
   unfolding toCode
   every-value-converts v e = rw (s .known, s .has-scale, e)
 
@@ -73,61 +75,66 @@ module _ (t : ℕ) (none : (i : Item) → Scaled t i → ⊥) where
   code-19 v = by-item (λ f. codeBy t v f ≡ refused 19 0 t) (itemOf t) (λ i e. rw (unscaled i e)) refl
 
 -- and nothing else: an answer tells which of the cases it is
-pub record HouseGiven (t code : ℕ) (i : Item) (v : ℤ) : Type 0 where
+pub record HouseGiven (t code : ℕ) (i : Item) (h : House) : Type 0 where
   pub scale : Scaled t i
   pub number : isNumber i code ≡ true
-  pub value : v ≡ houseOf i code
+  pub made : h ≡ houseGiven i code
 
-pub house-given : (t code : ℕ) (i : Item) (v : ℤ) → itemOf t ≡ Known i → toHouse t code ≡ given v → HouseGiven t code i v
+pub house-given : (t code : ℕ) (i : Item) (h : House) → itemOf t ≡ Known i → toHouse t code ≡ given h → HouseGiven t code i h
 unfolding toHouse
-house-given t code i v e h =
+house-given t code i h e p =
     byBool (scaled i)
     (λ s. byBool (isNumber i code)
-    (λ n. record { scale = record { known = e; has-scale = s }; number = n; value = got (rw (e, s, n) at h) })
-    (λ n. not-given (rw (e, s, n) at h)))
-    (λ s. not-given (rw (e, s) at h))
+    (λ n. record { scale = record { known = e; has-scale = s }; number = n; made = got (rw (e, s, n) at p) })
+    (λ n. not-given (rw (e, s, n) at p)))
+    (λ s. not-given (rw (e, s) at p))
   where
-    got : given (houseOf i code) ≡ given v → v ≡ houseOf i code
+    got : given (houseGiven i code) ≡ given h → h ≡ houseGiven i code
     got p = cc
 
-    not-given : {n p q : ℕ} {C : Type 0} → refused n p q ≡ given v → C
+    not-given : {n p q : ℕ} {C : Type 0} → refused n p q ≡ given h → C
     not-given p = let z : _≡_ {A = ℕ} 0 1 = cc in absurd (omega arith)
 
 -- a value in house units leaves room for a sum
-pub house-small : (t code : ℕ) (v : ℤ) → toHouse t code ≡ given v → mag v < 2 ^ 62
+pub house-small : (t code : ℕ) (h : House) → toHouse t code ≡ given h → mag (h .value) < 2 ^ 62
 unfolding toHouse
-house-small t code v h = go (itemOf t) refl
+house-small t code h p = go (itemOf t) refl
   where
-    go : (f : Found) → itemOf t ≡ f → mag v < 2 ^ 62
+    go : (f : Found) → itemOf t ≡ f → mag (h .value) < 2 ^ 62
     go (Known i) e =
-        let g = house-given t code i v e h in
+        let g = house-given t code i h e p in
         let r = scaled-rule (g .scale) in
         let o = house-inside i r code (g .number) in
-        rw (g .value) (inside-small (i .low) (i .high) (houseOf i code) (r .low-small) (r .high-small) (neither-left (ltZ (houseOf i code) (i .low)) _ o) (neither-right (ltZ (houseOf i code) (i .low)) _ o))
-    go Absent e = let f : refused 19 0 t ≡ given v = rw e at h in never (cc)
+        rw (g .made) (inside-small (i .low) (i .high) (houseOf i code) (r .low-small) (r .high-small) (neither-left (ltZ (houseOf i code) (i .low)) _ o) (neither-right (ltZ (houseOf i code) (i .low)) _ o))
+    go Absent e = let f : refused 19 0 t ≡ given h = rw e at p in never (cc)
 
-pub record CodeGiven (t : ℕ) (v : ℤ) (i : Item) (code : ℕ) : Type 0 where
+pub record CodeGiven (t : ℕ) (v : ℤ) (i : Item) (c : Code) : Type 0 where
   pub scale : Scaled t i
   pub inside : isOutside i v ≡ false
-  pub value : code ≡ codeOf i v
+  pub made : c ≡ codeGiven i v
 
-pub code-given : (t : ℕ) (v : ℤ) (i : Item) (code : ℕ) → itemOf t ≡ Known i → toCode t v ≡ given code → CodeGiven t v i code
+pub code-given : (t : ℕ) (v : ℤ) (i : Item) (c : Code) → itemOf t ≡ Known i → toCode t v ≡ given c → CodeGiven t v i c
 unfolding toCode
-code-given t v i code e h =
+code-given t v i c e p =
     byBool (scaled i)
     (λ s. byBool (isOutside i v)
-    (λ n. not-given (rw (e, s, n) at h))
-    (λ n. record { scale = record { known = e; has-scale = s }; inside = n; value = got (rw (e, s, n) at h) }))
-    (λ s. not-given (rw (e, s) at h))
+    (λ n. not-given (rw (e, s, n) at p))
+    (λ n. record { scale = record { known = e; has-scale = s }; inside = n; made = got (rw (e, s, n) at p) }))
+    (λ s. not-given (rw (e, s) at p))
   where
-    got : given (codeOf i v) ≡ given code → code ≡ codeOf i v
+    got : given (codeGiven i v) ≡ given c → c ≡ codeGiven i v
     got p = cc
 
-    not-given : {n p q : ℕ} {C : Type 0} → refused n p q ≡ given code → C
+    not-given : {n p q : ℕ} {C : Type 0} → refused n p q ≡ given c → C
     not-given p = let z : _≡_ {A = ℕ} 0 1 = cc in absurd (omega arith)
 
 -- what a conversion to a code answers is never a mark, and fits
-pub answer-is-number : (t : ℕ) (v : ℤ) (i : Item) (code : ℕ) → itemOf t ≡ Known i → toCode t v ≡ given code → isNumber i code ≡ true
-answer-is-number t v i code e h =
-    let g = code-given t v i code e h in
-    rw (g .value) (code-is-number (g .scale) v (g .inside))
+pub answer-is-number : (t : ℕ) (v : ℤ) (i : Item) (c : Code) → itemOf t ≡ Known i → toCode t v ≡ given c → isNumber i (c .code) ≡ true
+answer-is-number t v i c e p =
+    let g = code-given t v i c e p in
+    rw (g .made) (code-is-number (g .scale) v (g .inside))
+
+-- an answer that gives what is so
+abbrev pub Gives : {A : Type 0} → Answer A → (A → Type 0) → Type 0
+Gives (given a) so = so a
+Gives (refused n p t) so = ⊥

@@ -16,13 +16,13 @@ use Rattle.scale.proofs.to_code.Kinds as to-code-kinds
 use Rattle.scale.proofs.to_code.Reads as to-code-reads
 
 pub house-apart : (a b : ToHouse) → houseSaid a ≡ houseSaid b → a ≡ b
-house-apart (house.Is x) (house.Is y) e = let v : x .value ≡ y .value = cc in ap house.Is (λ i. record { value = v i })
+house-apart (house.Is x) (house.Is y) e = ap house.Is (let g : x ≡ y = cc in g)
 house-apart (house.Is x) (house.Refused y) e = let z : _≡_ {A = ℕ} 0 1 = cc in absurd (omega arith)
 house-apart (house.Refused x) (house.Is y) e = let z : _≡_ {A = ℕ} 0 1 = cc in absurd (omega arith)
 house-apart (house.Refused x) (house.Refused y) e = ap house.Refused (refusal-apart x y e)
 
 pub code-apart : (a b : ToCode) → codeSaid a ≡ codeSaid b → a ≡ b
-code-apart (code.Is x) (code.Is y) e = let v : x .code ≡ y .code = cc in ap code.Is (λ i. record { code = v i })
+code-apart (code.Is x) (code.Is y) e = ap code.Is (let g : x ≡ y = cc in g)
 code-apart (code.Is x) (code.Refused y) e = let z : _≡_ {A = ℕ} 0 1 = cc in absurd (omega arith)
 code-apart (code.Refused x) (code.Is y) e = let z : _≡_ {A = ℕ} 0 1 = cc in absurd (omega arith)
 code-apart (code.Refused x) (code.Refused y) e = ap code.Refused (refusal-apart x y e)

@@ -22,12 +22,14 @@ use Rattle.scale.specs.Nearest.{nearest}
 use Rattle.scale.specs.Scales.{scaled, codes, half, origin, reach, steps, isNumber, isOutside, codeBelow, codeFar, valueBelow, valueFar, side}
 use Rattle.scale.specs.Conversions.{houseOf, toHouse, codeAt, codeOf, toCode}
 use Rattle.scale.specs.Rule.{Rule}
+use Rattle.scale.specs.declared.House.{House}
+use Rattle.scale.specs.declared.Code.{Code}
 use Rattle.scale.proofs.Nearest.{gap, nearest-none, nearest-back, there-and-back, Within}
 use Rattle.scale.proofs.Whole.{sided, from-origin, to-origin, side-below, natAbs-side}
 use Rattle.scale.proofs.Sides.{one-side, side-drop, natAbs-from}
 use Rattle.scale.proofs.Items.{number-fits, some-steps}
 use Rattle.scale.proofs.Numbers.{code-coded, house-inside}
-use Rattle.scale.proofs.Given.{Scaled, scaled-rule, house-given, code-given, every-code-converts, every-value-converts, code-is-number}
+use Rattle.scale.proofs.Given.{Scaled, scaled-rule, house-given, code-given, every-code-converts, every-value-converts, code-is-number, Gives}
 use Rattle.scale.proofs.Codes.{below-some}
 
 module _ (i : Item) (r : Rule i) where
@@ -85,24 +87,28 @@ module _ (i : Item) (r : Rule i) where
       (λ e. byLt 0 m (λ h. h)
       (λ h. let z : m ≡ 0 = omega arith in absurd (omega (arith, below-some i r code n e, sym back ∙ none-back m (reach i) (steps i) (r .some) z))))
 
-pub there-and-back-within : (t : ℕ) (v w : ℤ) (i : Item) (code : ℕ) → itemOf t ≡ Known i → toCode t v ≡ given code → toHouse t code ≡ given w → 2 * (steps i * natAbs (w -ℤ v)) ≤ reach i + steps i
-there-and-back-within t v w i code e p q =
-    let g = code-given t v i code e p in
-    let h = house-given t code i w e q in
-    rw (h .value, g .value) (within i (scaled-rule (g .scale)) v (g .inside))
+pub there-and-back-within : (t : ℕ) (v : ℤ) (i : Item) (c : Code) (h : House) → itemOf t ≡ Known i → toCode t v ≡ given c → toHouse t (c .code) ≡ given h
+    → 2 * (steps i * natAbs (h .value -ℤ v)) ≤ reach i + steps i
+there-and-back-within t v i c h e p q =
+    let g = code-given t v i c e p in
+    let k = house-given t (c .code) i h e q in
+    rw (k .made, g .made) (within i (scaled-rule (g .scale)) v (g .inside))
 
 -- a step is smaller than a house unit
-pub value-code-value : (t : ℕ) (v : ℤ) (i : Item) (code : ℕ) → itemOf t ≡ Known i → reach i < steps i → toCode t v ≡ given code → toHouse t code ≡ given v
-value-code-value t v i code e fine p =
-    let g = code-given t v i code e p in
-    rw (g .value) (every-code-converts (g .scale) (codeOf i v) (code-is-number (g .scale) v (g .inside)) ∙ ap given (value-back i (scaled-rule (g .scale)) v (g .inside) fine))
+pub value-code-value : (t : ℕ) (v : ℤ) (i : Item) (c : Code) → itemOf t ≡ Known i → reach i < steps i → toCode t v ≡ given c
+    → Gives (toHouse t (c .code)) (λ h. h .value ≡ v)
+value-code-value t v i c e fine p =
+    let g = code-given t v i c e p in
+    rw (g .made, every-code-converts (g .scale) (codeOf i v) (code-is-number (g .scale) v (g .inside)))
+    (value-back i (scaled-rule (g .scale)) v (g .inside) fine)
 
 -- a step exceeds a house unit
-pub code-value-code : (t code : ℕ) (i : Item) (v : ℤ) → itemOf t ≡ Known i → steps i < reach i → toHouse t code ≡ given v → toCode t v ≡ given code
-code-value-code t code i v e coarse p =
-    let g = house-given t code i v e p in
+pub code-value-code : (t code : ℕ) (i : Item) (h : House) → itemOf t ≡ Known i → steps i < reach i → toHouse t code ≡ given h
+    → Gives (toCode t (h .value)) (λ c. c .code ≡ code)
+code-value-code t code i h e coarse p =
+    let g = house-given t code i h e p in
     let r = scaled-rule (g .scale) in
-    rw (g .value) (every-value-converts (g .scale) (houseOf i code) (house-inside i r code (g .number)) ∙ ap given (code-back i r code (g .number) coarse))
+    rw (g .made, every-value-converts (g .scale) (houseOf i code) (house-inside i r code (g .number))) (code-back i r code (g .number) coarse)
 
 -- which items fall where
 pub isCoarse : Item → Bool

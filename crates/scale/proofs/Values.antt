@@ -15,6 +15,7 @@ use Rattle.scale.specs.Scales.{origin, reach, steps, codeBelow, codeFar,
 use Rattle.scale.specs.Conversions.{houseOf, toHouse}
 use Rattle.scale.specs.Exact.{miss}
 use Rattle.scale.specs.Rule.{Rule}
+use Rattle.scale.specs.declared.House.{House}
 use Rattle.scale.proofs.Whole.{sided, from-origin, to-origin}
 use Rattle.scale.proofs.Sides.{side-times, near-side, within-half}
 use Rattle.scale.proofs.Given.{house-given, scaled-rule}
@@ -48,7 +49,7 @@ nearest-value i r code = record { within = near; only = alone; no-tie = untied }
     untied : (w : ℤ) → 2 * miss i code w ≡ steps i → ⊥
     untied w h = omega (arith, near, ap (miss i code) (alone w (omega arith)))
 
-pub house-nearest : (t code : ℕ) (i : Item) (v : ℤ) → itemOf t ≡ Known i → toHouse t code ≡ given v → NearestValue i code v
-house-nearest t code i v e h =
-    let g = house-given t code i v e h in
-    rw (g .value) (nearest-value i (scaled-rule (g .scale)) code)
+pub house-nearest : (t code : ℕ) (i : Item) (h : House) → itemOf t ≡ Known i → toHouse t code ≡ given h → NearestValue i code (h .value)
+house-nearest t code i h e p =
+    let g = house-given t code i h e p in
+    rw (g .made) (nearest-value i (scaled-rule (g .scale)) code)

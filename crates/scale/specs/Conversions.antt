@@ -10,17 +10,22 @@ use Rattle.catalogue.specs.declared.Found.{Found}
 use Rattle.catalogue.specs.declared.Found.the-variants.{Known, Absent}
 use Rattle.scale.specs.Nearest.{nearest}
 use Rattle.scale.specs.Scales.{scaled, codes, origin, reach, steps, isNumber, isOutside, codeBelow, codeFar, valueBelow, valueFar, side}
+use Rattle.scale.specs.declared.House.{House}
+use Rattle.scale.specs.declared.Code.{Code}
 
 -- "To house units: nearest whole number"
 unfoldable pub houseOf : Item → ℕ → ℤ
 houseOf i code = origin i +ℤ side (codeBelow i code) (nearest (codeFar i code * reach i) (steps i))
 
-abbrev pub houseBy : ℕ → ℕ → Found → Answer ℤ
+abbrev pub houseGiven : Item → ℕ → House
+houseGiven i code = record { value = houseOf i code }
+
+abbrev pub houseBy : ℕ → ℕ → Found → Answer House
 houseBy tag code (Known i) =
-    cond (scaled i) (cond (isNumber i code) (given (houseOf i code)) (refused 20 0 tag)) (refused 19 0 tag)
+    cond (scaled i) (cond (isNumber i code) (given (houseGiven i code)) (refused 20 0 tag)) (refused 19 0 tag)
 houseBy tag code Absent = refused 19 0 tag
 
-unfoldable pub toHouse : ℕ → ℕ → Answer ℤ
+unfoldable pub toHouse : ℕ → ℕ → Answer House
 toHouse tag code = houseBy tag code (itemOf tag)
 
 -- "To a code: nearest code; a tie goes away from the low end for unsigned items and away from zero for signed ones."
@@ -31,10 +36,13 @@ codeAt i below far = cond (below && ltb 0 far) (codes i - far) far
 unfoldable pub codeOf : Item → ℤ → ℕ
 codeOf i value = codeAt i (valueBelow i value) (nearest (valueFar i value * steps i) (reach i))
 
-abbrev pub codeBy : ℕ → ℤ → Found → Answer ℕ
+abbrev pub codeGiven : Item → ℤ → Code
+codeGiven i value = record { code = codeOf i value }
+
+abbrev pub codeBy : ℕ → ℤ → Found → Answer Code
 codeBy tag value (Known i) =
-    cond (scaled i) (cond (isOutside i value) (refused 21 0 tag) (given (codeOf i value))) (refused 19 0 tag)
+    cond (scaled i) (cond (isOutside i value) (refused 21 0 tag) (given (codeGiven i value))) (refused 19 0 tag)
 codeBy tag value Absent = refused 19 0 tag
 
-unfoldable pub toCode : ℕ → ℤ → Answer ℕ
+unfoldable pub toCode : ℕ → ℤ → Answer Code
 toCode tag value = codeBy tag value (itemOf tag)

@@ -10,6 +10,8 @@ use Rattle.ber.specs.Read.{Read, got, broken, readLength}
 use Rattle.catalogue.specs.Rows.{allTags}
 use Rattle.catalogue.proofs.Same.{sameWhole}
 use Rattle.scale.specs.Conversions.{toHouse, toCode}
+use Rattle.scale.specs.declared.House.{House}
+use Rattle.scale.specs.declared.Code.{Code}
 use Rattle.packet.specs.Structure.{key, same}
 use Rattle.packet.specs.Rows.{words, readAnswer, readTable}
 use Rattle.rows.specs.Kinds.{Row}
@@ -25,6 +27,19 @@ sameAnswer same (given a) (given b) = same a b
 sameAnswer same (given a) (refused n p t) = false
 sameAnswer same (refused m q u) (given b) = false
 sameAnswer same (refused m q u) (refused n p t) = eqb m n && (eqb q p && eqb u t)
+
+-- what a conversion gives, all of it
+abbrev pub house : ℤ → Answer House
+house value = given (record { value = value })
+
+abbrev pub sameHouse : House → House → Bool
+sameHouse g h = sameWhole (g .value) (h .value)
+
+abbrev pub code : ℕ → Answer Code
+code stored = given (record { code = stored })
+
+abbrev pub sameCode : Code → Code → Bool
+sameCode c d = eqb (c .code) (d .code)
 
 -- a lent table of words that are not zero, one longer than the reader needs
 abbrev pub lent : List ℕ
@@ -42,15 +57,15 @@ pub data Case : Type 0 where
   -- the bytes of a length, and what reading them finds
   lengthCase : List ℕ → Read → Case
   -- a tag, a code and its value in house units; a tag, a value and its code
-  houseCase : ℕ → ℕ → Answer ℤ → Case
-  codeCase : ℕ → ℤ → Answer ℕ → Case
+  houseCase : ℕ → ℕ → Answer House → Case
+  codeCase : ℕ → ℤ → Answer Code → Case
   -- a packet and the rows that a receiver of the whole catalogue reads
   packetCase : List ℕ → List Row → Case
 
 abbrev pub right : Case → Bool
 right (lengthCase bytes found) = sameRead (readLength bytes) found
-right (houseCase tag code answer) = sameAnswer sameWhole (toHouse tag code) answer
-right (codeCase tag value answer) = sameAnswer eqb (toCode tag value) answer
+right (houseCase tag code answer) = sameAnswer sameHouse (toHouse tag code) answer
+right (codeCase tag value answer) = sameAnswer sameCode (toCode tag value) answer
 right (packetCase packet rows) =
     sameAnswer eqb (readAnswer allTags packet lent) (given (length rows)) && same (readTable allTags packet lent) (tableWith rows)
 
@@ -70,20 +85,20 @@ values =
     ∷ lengthCase (0x80 ∷ 0x01 ∷ 0x01 ∷ []) broken
     ∷ lengthCase (0x85 ∷ 0x01 ∷ 0x01 ∷ 0x01 ∷ 0x01 ∷ 0x01 ∷ []) broken
     -- conversions
-    ∷ houseCase 18 0x724A0A20 (given (pos 1607192114))
-    ∷ houseCase 19 0x87F84B86 (given (negℤ (pos 1687923248)))
-    ∷ houseCase 21 0x03830926 (given (pos 68590983))
-    ∷ houseCase 64 0xDDC5 (given (pos 3118681621))
-    ∷ houseCase 26 0x8001 (given (negℤ (pos 750000)))
-    ∷ houseCase 26 0x7FFF (given (pos 750000))
-    ∷ houseCase 26 0x0001 (given (pos 23))
+    ∷ houseCase 18 0x724A0A20 (house (pos 1607192114))
+    ∷ houseCase 19 0x87F84B86 (house (negℤ (pos 1687923248)))
+    ∷ houseCase 21 0x03830926 (house (pos 68590983))
+    ∷ houseCase 64 0xDDC5 (house (pos 3118681621))
+    ∷ houseCase 26 0x8001 (house (negℤ (pos 750000)))
+    ∷ houseCase 26 0x7FFF (house (pos 750000))
+    ∷ houseCase 26 0x0001 (house (pos 23))
     ∷ houseCase 26 0x8000 (refused 20 0 26)
-    ∷ houseCase 39 0x80 (given (negℤ (pos 128000)))
-    ∷ houseCase 15 0x0000 (given (negℤ (pos 900000)))
-    ∷ houseCase 15 0xFFFF (given (pos 19000000))
+    ∷ houseCase 39 0x80 (house (negℤ (pos 128000)))
+    ∷ houseCase 15 0x0000 (house (negℤ (pos 900000)))
+    ∷ houseCase 15 0xFFFF (house (pos 19000000))
     -- a tie, and just below it
-    ∷ codeCase 36 (pos 10000) (given 26)
-    ∷ codeCase 36 (pos 9999) (given 25)
+    ∷ codeCase 36 (pos 10000) (code 26)
+    ∷ codeCase 36 (pos 9999) (code 25)
     -- the packet: place, length, tag and code of its rows
     ∷ packetCase packet (numberRow 19 8 2 1 ∷ numberRow 29 1 65 17 ∷ numberRow 32 2 1 25254 ∷ [])
     ∷ []

@@ -1,12 +1,13 @@
 -- `oysterknoll::oyk_to_house` meets its contract.
 -- Assumes nothing.
 use mathlib.Core.Path.{ap, _∙_}
+use lib.IntN.{pos}
 use mir.Facts.{toZ-ofZ}
 use mir.Val.{SFits}
 use mir.Syntax.{w64}
 use borrow.Author.Needs.{needs}
 use Rattle.scale.specs.Said.{houseSaid}
-use Rattle.oysterknoll.specs.Answers.{valuing}
+use Rattle.oysterknoll.specs.Answers.{measuring, valuing}
 use Rattle.oysterknoll.proofs.Said.{said}
 use Rattle.oysterknoll.proofs.oyk_to_house.Statement.{statement}
 use Rattle.oysterknoll.proofs.oyk_to_house.Tie as tie
@@ -32,7 +33,7 @@ returns c = c .refused .ensures ∙ said valuing houseSaid (c .before .before .r
 returns-2 : tie.Need-returns-2
 returns-2 c =
     let fits : SFits w64 (c .before .before .before .house .given .0 .0 .value) = search needs in
-    c .measured .ensures ∙ (ap valuing (toZ-ofZ fits) ∙ said valuing houseSaid (c .before .before .before .house .given .1) (c .before .before .before .before .before .to-house .ensures))
+    c .measured .ensures ∙ (ap (λ v. measuring 0 v (pos 0)) (toZ-ofZ fits) ∙ said valuing houseSaid (c .before .before .before .house .given .1) (c .before .before .before .before .before .to-house .ensures))
 
 pub oyk-to-house-spec : {M : Type 1} → statement M
 oyk-to-house-spec =
