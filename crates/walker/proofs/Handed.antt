@@ -73,10 +73,15 @@ none-again K p at e = go (headerAt p at) refl e
     go (refused n b t) f g = (refl, refl)
 
 module _ (K : TagSet) (p : List ℕ) where
+  -- there are no more where the packet ends
+  pub end-none : (at : ℕ) → length p ≤ at → foundAt K p at ≡ found.NoMore
+  unfolding foundAt headerAt readItem readTag
+  end-none at h = rw (nil-at p at h)
+
   hands-none : (n at : ℕ) → length p ≤ at → handed n K p at ≡ []
-  unfolding handed foundAt headerAt readItem readTag
+  unfolding handed
   hands-none zero at h = refl
-  hands-none (suc n) at h = rw (nil-at p at h)
+  hands-none (suc n) at h = rw (end-none at h)
 
   -- the item is handed out as its row is
   module _ (by : Bytes p) (h : Header) (inside : h .place + h .size ≤ length p) (l : Lies p (itemBy p h)) (s : SizedFor (holds K) (itemBy p h .piece)) where

@@ -9,6 +9,7 @@ ghost use Rattle.catalogue.specs.Shapes.{isMarked};
 ghost use Rattle.catalogue.specs.declared.Shape.the-variants.{Number};
 ghost use Rattle.rows.specs.Kinds.{shapeFor};
 ghost use Rattle.packet.specs.Verdict.{checked};
+ghost use Rattle.walker.specs.Passes.{Starts, Passes};
 ghost use Rattle.walker.specs.Steps.{knowing, contentIn, rowIn, foundAt, partAt, nextAt, beginBy, beginSaid, startPlace, placeNumber};
 use catalogue::Found as Listed;
 use catalogue::Shape;
@@ -41,7 +42,8 @@ struct Begun {
 }
 
 fn opened(packet: &[u8], low: u64, high: u64) -> Begun
-    ensures { λ r. ⌜ (beginSaid (r .answer) ≡ beginBy (checked (knowing low high) (now (packet .entry)))) × (r .at ≡ startPlace (knowing low high) (now (packet .entry))) ⌝ }
+    ensures { λ r. ⌜ (beginSaid (r .answer) ≡ beginBy (checked (knowing low high) (now (packet .entry))))
+        × (r .at ≡ startPlace (knowing low high) (now (packet .entry))) ⌝ }
 {
     match packet::check(packet, TagSet { low, high }) {
         Checked::Accepted(accepted) => Begun {
@@ -188,9 +190,7 @@ pub struct Passed<'a> {
 
 // Starts a walk: the packet is checked as the reader checks it.
 pub fn start<'a>(packet: &'a [u8], low: u64, high: u64) -> Started<'a>
-    ensures { λ r. ⌜ (beginSaid (r .answer) ≡ beginBy (checked (knowing low high) (now (packet .entry))))
-        × ((r .walker .packet ≡ packet .entry) × ((r .walker .at ≡ startPlace (knowing low high) (now (packet .entry)))
-        × ((r .walker .low ≡ low) × (r .walker .high ≡ high)))) ⌝ }
+    ensures { λ r. ⌜ Starts (packet .entry) low high r ⌝ }
 {
     let b = opened(packet, low, high);
     Started {
@@ -206,10 +206,7 @@ pub fn start<'a>(packet: &'a [u8], low: u64, high: u64) -> Started<'a>
 
 // One step of a walk.
 pub fn next<'a>(w: Walker<'a>) -> Passed<'a>
-    ensures { λ r. ⌜ (r .found ≡ foundAt (knowing (w .entry .low) (w .entry .high)) (now (w .entry .packet)) (w .entry .at))
-        × ((now (r .value) ≡ partAt (now (w .entry .packet)) (w .entry .at))
-        × ((r .rest .packet ≡ w .entry .packet) × ((r .rest .at ≡ nextAt (now (w .entry .packet)) (w .entry .at))
-        × ((r .rest .low ≡ w .entry .low) × (r .rest .high ≡ w .entry .high))))) ⌝ }
+    ensures { λ r. ⌜ Passes (w .entry) r ⌝ }
 {
     let s = w.packet;
     let at = w.at;

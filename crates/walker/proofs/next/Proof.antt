@@ -192,7 +192,7 @@ module _ {M : Type 1} (𝓤 : URA M) (H : Heap 𝓤) (A : Atoms 𝓤) (W : Given
       → ent 𝓤 (⋆ 𝓤 H A ((‵ (flft κ q) ⊛ ‵ ftrue) ∷ ‵ OwnS ∷ ‵ (OwnV x) ∷ ‵ OwnW ∷ [])) (Post (result r x m))
   exits r x m isr gm gl gh er ex em =
       qed W ((‵ (flft κ q) ⊛ ‵ ftrue) ∷ ‵ OwnS ∷ ‵ (OwnV x) ∷ ‵ OwnW ∷ []) ∵
-      suffices ! _ (ends-at 𝓤 H A next.ended stayed (next.clauses 𝓤 H A mem run) W (((κ, tt), (q, tt), tt, (d, tt), (mach ∷ [], tt)), tt) (result r x m) (taken r x m) (tt, tt) (tt, tt)) $ says ! (er, (ex, (refl, (em, (refl, refl))))) $
+      suffices ! _ (ends-at 𝓤 H A next.ended stayed (next.clauses 𝓤 H A mem run) W (((κ, tt), (q, tt), tt, (d, tt), (mach ∷ [], tt)), tt) (result r x m) (taken r x m) (tt, tt) (tt, tt)) $ says ! (record { found = er; value = ex; rest = ap moved em }) $
       frame ! $ nothing ! $ move ! (3 ∷ 0 ∷ []) $ fjoin ! $ frame ! $
       -- [what packet owns; what value owns]: the walker within is shut, then the whole
       nothing ! $ owned ! u64 (Is u64) (uint-makes 𝓤 H A W w64) (d .high) _ (refl, gh) $ fjoin ! $ owned ! u64 (Is u64) (uint-makes 𝓤 H A W w64) (d .low) _ (refl, gl) $ fjoin ! $

@@ -128,7 +128,7 @@ module _ {M : Type 1} (𝓤 : URA M) (H : Heap 𝓤) (A : Atoms 𝓤) (W : Given
   exits : (b : Begun) → Is S.the-row (b .answer) (avals (b .answer)) → b .at < 2 ^ 64 → low < 2 ^ 64 → high < 2 ^ 64 → Said b → ent 𝓤 (⋆ 𝓤 H A ((‵ (flft κ q) ⊛ ‵ ftrue) ∷ ‵ OwnS ∷ [])) (Post (result b))
   exits b isa gm gl gh e =
       qed W ((‵ (flft κ q) ⊛ ‵ ftrue) ∷ ‵ OwnS ∷ []) ∵
-      suffices ! _ (ends-at 𝓤 H A start.ended stayed (start.clauses 𝓤 H A mem run) W (((κ, tt), (q, tt), tt, (s, (low, (high, tt))), at), tt) (result b) (made b) (tt, (tt, (tt, tt))) (tt, (tt, (tt, tt)))) $ says ! (e .0, (refl, (e .1, (refl, refl)))) $
+      suffices ! _ (ends-at 𝓤 H A start.ended stayed (start.clauses 𝓤 H A mem run) W (((κ, tt), (q, tt), tt, (s, (low, (high, tt))), at), tt) (result b) (made b) (tt, (tt, (tt, tt))) (tt, (tt, (tt, tt)))) $ says ! (record { answer = e .0; walker = ap placed (e .1) }) $
       frame ! $ use1 W (‵ OwnS ⊛ ‵ OwnS) (shr-slice-copy 𝓤 H A W (named 0) κ u8 .twice s (v ∷ [])) $ split ! $
       nothing ! $ owned ! u64 (Is u64) (uint-makes 𝓤 H A W w64) high _ (refl, gh) $ fjoin ! $ owned ! u64 (Is u64) (uint-makes 𝓤 H A W w64) low _ (refl, gl) $ fjoin ! $ move ! (1 ∷ 0 ∷ []) $ fjoin ! $ frame ! $
       -- [what packet owns]: the walker within is shut, then the whole

@@ -48,8 +48,8 @@ use denote.Triple.Table.{entered, cited}
 use denote.Triple.Walked.{says, Stays, stay-none, stay-none-slice, walkOf, goes-none, goes-none-slice, Walks, ends-at, walked, walk-meets}
 use denote.Exit.{yes}
 use Rattle.tagset.specs.declared.TagSet.{TagSet}
-use Rattle.packet.specs.Verdict.{checked}
-use Rattle.walker.specs.Steps.{knowing, foundAt, partAt, nextAt, beginBy, beginSaid, startPlace, placeNumber}
+use Rattle.walker.specs.Passes.{Starts, Passes}
+use Rattle.walker.specs.Steps.{knowing, partAt, nextAt, startPlace, placeNumber}
 use Rattle.walker.specs.declared.Walker.{Walker}
 use Rattle.walker.specs.declared.Started.{Started}
 use Rattle.walker.specs.declared.Passed.{Passed}
@@ -189,7 +189,7 @@ module _ {M : Type 1} (𝓤 : URA M) (H : Heap 𝓤) (A : Atoms 𝓤) (G : Given
       use2 G (raw (Start 𝓤 H A mem run .pre to-start)) (qed G ((‵ (flft κ q) ⊛ ‵ ftrue) ∷ ‵ (owns (ShrSlice (named 0) κ u8 ∷ u64 ∷ u64 ∷ []) (s, (low, (high, tt))) from-words) ∷ []) ∵ join ! $ frame ! $ done !) $ frame ! $ done !
 
   abbrev Begins : Started → Type 0
-  Begins r = (beginSaid (r .answer) ≡ beginBy (checked Kn (now s))) × ((r .walker .packet ≡ s) × ((r .walker .at ≡ startPlace Kn (now s)) × ((r .walker .low ≡ low) × (r .walker .high ≡ high))))
+  Begins r = Starts s low high r
 
   start-said : (r : Started) → ent 𝓤 (ensured 𝓤 H A start.ended (start.clauses 𝓤 H A mem run) (κ, tt) (s, (low, (high, tt))) tt r) (fact 𝓤 (Begins r))
   start-said r = exE 𝓤 _ (λ ws. snd∗ 𝓤 (sem 𝓤 H A (lasts start.ended (κ, tt) (s, (low, (high, tt))) ws)) (fact 𝓤 (Begins r)))
@@ -206,7 +206,7 @@ module _ {M : Type 1} (𝓤 : URA M) (H : Heap 𝓤) (A : Atoms 𝓤) (G : Given
       use2 G (raw (Next 𝓤 H A mem run .pre (to-next m))) (qed G ((‵ (flft κ q) ⊛ ‵ ftrue) ∷ ‵ (owns (W.the-row α ∷ []) (moved m, tt) (wv (moved m) ∷ [], tt)) ∷ []) ∵ join ! $ frame ! $ done !) $ frame ! $ done !
 
   abbrev Said : ℕ → Passed → Type 0
-  Said m r = (r .found ≡ foundAt Kn (now s) m) × ((now (r .value) ≡ partAt (now s) m) × ((r .rest .packet ≡ s) × ((r .rest .at ≡ nextAt (now s) m) × ((r .rest .low ≡ low) × (r .rest .high ≡ high)))))
+  Said m r = Passes (moved m) r
 
   next-said : (m : ℕ) (r : Passed) → ent 𝓤 (ensured 𝓤 H A next.ended (next.clauses 𝓤 H A mem run) (κ, tt) (moved m, tt) tt r) (fact 𝓤 (Said m r))
   next-said m r = exE 𝓤 _ (λ ws. snd∗ 𝓤 (sem 𝓤 H A (lasts next.ended (κ, tt) (moved m, tt) ws)) (fact 𝓤 (Said m r)))
@@ -280,7 +280,7 @@ module _ {M : Type 1} (𝓤 : URA M) (H : Heap 𝓤) (A : Atoms 𝓤) (G : Given
         next-fits = omega (arith, small, gk)
 
         same : (r : Passed) → Said (pl i) r → r .rest ≡ moved (pl (suc i))
-        same r e = λ j. record { packet = e .1 .1 .0 j; at = (e .1 .1 .1 .0 ∙ place-after Kn (now s) i) j; low = e .1 .1 .1 .1 .0 j; high = e .1 .1 .1 .1 .1 j }
+        same r e = e .rest ∙ ap moved (place-after Kn (now s) i)
 
     -- the turn that leaves the loop, and the rest of the body: the item is taken, and its value handed back
     ends : (i : ℕ) (X : SProp 𝓤) → i ≡ k → pl i < 2 ^ 64 → ent 𝓤 (⋆ 𝓤 H A (At i)) (Wp 𝓤 H C Λ En mir.turn-1 (afterTurn 𝓤 H X Left))
@@ -305,7 +305,7 @@ module _ {M : Type 1} (𝓤 : URA M) (H : Heap 𝓤) (A : Atoms 𝓤) (G : Given
         assigns ! (of-opd ! (load ! (from ! (fld ! refl (stop !))) (look-in ! 6 (sub ! 1 refl (whole !))))) (from ! (stop !)) (init ! 28 refl (shr-slice-lawful 𝓤 H A G (named 0) κ u8 .typed (r .value) _ (LL.owed KD KL r _ is .1 .0) .0)) $
         returns ! (look ! 28 refl) $ forget ! 4 refl $ forget ! 6 refl $ forget ! 12 refl $ forget ! 16 refl $ forget ! 18 refl $ forget ! 20 refl $ forget ! 22 refl $ forget ! 24 refl $ forget ! 26 refl $ forget ! 28 refl $
         move ! (28 ∷ 29 ∷ []) $ free1 ! $ move ! (26 ∷ 27 ∷ []) $ free1 ! $ move ! (24 ∷ 25 ∷ []) $ free1 ! $ move ! (22 ∷ 23 ∷ []) $ free1 ! $ move ! (20 ∷ 21 ∷ []) $ free1 ! $ move ! (18 ∷ 19 ∷ []) $ free1 ! $ move ! (16 ∷ 17 ∷ []) $ free1 ! $ move ! (14 ∷ 15 ∷ []) $ free1 ! $ move ! (12 ∷ 13 ∷ []) $ free1 ! $ move ! (10 ∷ 11 ∷ []) $ free1 ! $ move ! (8 ∷ 9 ∷ []) $ free1 ! $ move ! (6 ∷ 7 ∷ []) $ free1 ! $ move ! (4 ∷ 5 ∷ []) $ free1 ! $ free0 ! $
-        keep ! (2 ∷ 3 ∷ 0 ∷ []) $ by ! (exits (r .value) gl gh gk (e .1 .0 ∙ ap Read all)))))))
+        keep ! (2 ∷ 3 ∷ 0 ∷ []) $ by ! (exits (r .value) gl gh gk (e .value ∙ ap Read all)))))))
       where
         vk : Passed → Values (KD .parts)
         vk r = (r .found, (r .value, (r .rest, tt)))
@@ -348,7 +348,7 @@ module _ {M : Type 1} (𝓤 : URA M) (H : Heap 𝓤) (A : Atoms 𝓤) (G : Given
         keep ! (3 ∷ 4 ∷ 5 ∷ 6 ∷ 7 ∷ 8 ∷ 9 ∷ 10 ∷ 11 ∷ 12 ∷ 13 ∷ 14 ∷ 15 ∷ 16 ∷ 17 ∷ 18 ∷ 19 ∷ 20 ∷ 21 ∷ 22 ∷ 23 ∷ 24 ∷ 25 ∷ 26 ∷ 27 ∷ 28 ∷ 0 ∷ 1 ∷ []) $ by ! (loops (subst (λ (w : Walker). w .at < 2 ^ 64) (same r e) (LL.owed D L (r .walker) _ (LL.owed ZD ZL r _ is .1 .0) .1 .0 .1)))))))
       where
         same : (r : Started) → Begins r → r .walker ≡ moved (pl 0)
-        same r e = λ j. record { packet = e .1 .0 j; at = (e .1 .1 .0 ∙ place-first Kn (now s)) j; low = e .1 .1 .1 .0 j; high = e .1 .1 .1 .1 j }
+        same r e = e .walker ∙ ap moved (place-first Kn (now s))
 
   walk : (𝓣 : Tables 𝓤 H) → Triple 𝓤 (𝓣 .C #walker·start) (Start 𝓤 H A mem run) → Triple 𝓤 (𝓣 .C #walker·next) (Next 𝓤 H A mem run) → Is (ShrSlice (named 0) κ u8) s (v ∷ []) → low < 2 ^ 64 → high < 2 ^ 64 → k < 2 ^ 64
       → ent 𝓤 (onEntry 𝓤 H A number.signature (κ, tt) (q, tt) args at) (WpFn 𝓤 H (𝓣 .C) (𝓣 .Λ) code.function (v ∷ vint w64 low ∷ vint w64 high ∷ vint w64 k ∷ []) Post)
