@@ -1,4 +1,5 @@
 pub mod Cases
+pub mod Digits
 pub mod Every
 pub mod Parts
 pub mod Putting

@@ -20,6 +20,10 @@ module _ (l : List ℕ) (at : ℕ) where
   pub to-the-end : take (length l - at) (drop at l) ≡ drop at l
   to-the-end = take-all (length l - at) (drop at l) (rw length-drop (omega arith))
 
+  -- a part of it
+  pub part-lent : (n : ℕ) → take (at + n - at) (drop at l) ≡ take n (drop at l)
+  part-lent n = let k : at + n - at ≡ n = omega arith in rw k
+
   pub nil-at : length l ≤ at → drop at l ≡ []
   nil-at h = drop-of-length-le l h
 

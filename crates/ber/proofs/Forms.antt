@@ -54,7 +54,9 @@ module _ (x : ℕ) where
 
   pub length-large : 4294967296 ≤ x → lengthBytes x ≡ []
   unfolding lengthBytes
-  length-large h = rw (le-ltb x 128 (omega arith), le-ltb x 256 (omega arith), le-ltb x 65536 (omega arith), le-ltb x 16777216 (omega arith), le-ltb x 4294967296 h)
+  length-large h =
+      rw (le-ltb x 128 (omega arith), le-ltb x 256 (omega arith), le-ltb x 65536 (omega arith))
+      (rw (le-ltb x 16777216 (omega arith), le-ltb x 4294967296 h))
 
 -- a long form is one number of a byte more
 pub long-code : (n x : ℕ) → n < 128 → x < 256 ^ n → bytesOf (suc n) ((128 + n) * 256 ^ n + x) ≡ long n x

@@ -94,8 +94,9 @@ tag-read l t s by h = go l (readTag l) (tag-view l) by h
         let et : (a - 128) * 128 + b ≡ t = cc in
         let es : 2 ≡ s = cc in
         let k : a < 256 = by .byte 0 in
-        let e = tag-two ((a - 128) * 128 + b) (omega arith) (omega arith)
-        ∙ ap₂ (λ y z. y ∷ z ∷ []) (let u : 128 + ((a - 128) * 128 + b) / 128 ≡ a = omega arith in u) (let v : ((a - 128) * 128 + b) % 128 ≡ b = omega arith in v) in
+        let u : 128 + ((a - 128) * 128 + b) / 128 ≡ a = omega arith in
+        let v : ((a - 128) * 128 + b) % 128 ≡ b = omega arith in
+        let e = tag-two ((a - 128) * 128 + b) (omega arith) (omega arith) ∙ ap₂ (λ y z. y ∷ z ∷ []) u v in
         rw (← et, ← es) (record { some = omega arith; small = omega arith; size = rw e; takes = omega arith; inside = omega arith; same = rw e })
     go l x (threeBytes {a} {b} {c} p q m) by h =
         let n : ℕ = ((a - 128) * 128 + (b - 128)) * 128 + c in

@@ -4,7 +4,7 @@ use Prim.Native.Nat.{ℕ}
 use mathlib.Core.Path.{sym, _∙_}
 use mathlib.Core.List.{List}
 use Rattle.base.specs.Determined.{Determined, Answered}
-use Rattle.base.specs.Putting.{puts-once}
+use Rattle.base.proofs.Putting.{puts-once}
 use Rattle.ber.proofs.Laws.{seen-apart}
 use Rattle.ber.proofs.tag_at.Kinds as tag-at-kinds
 use Rattle.ber.proofs.tag_at.Reads as tag-at-reads

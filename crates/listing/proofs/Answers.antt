@@ -9,12 +9,13 @@ use lib.ListN.{length, replicate, length-append}
 use lib.Arith.{digits-div, digits-mod}
 use borrow.Author.Tests.{lt-leb, lt-ltb, le-ltb}
 use Rattle.base.specs.Every.{Each}
-use Rattle.base.specs.Putting.{putInto}
+use Rattle.base.specs.Putting.{putInto, Wrote}
 use Rattle.refusal.specs.Numbers.{number}
 use Rattle.refusal.specs.Answer.{given, refused, refusal}
 use Rattle.refusal.specs.declared.Refusal.{Refusal}
 use Rattle.number.specs.Stored.{Bytes}
 use Rattle.tagset.specs.Sets.{holds}
+use Rattle.tagset.specs.declared.TagSet.{TagSet}
 use Rattle.catalogue.specs.Rows.{allTags}
 use Rattle.knowing.specs.Good.{good}
 use Rattle.rows.specs.Kinds.{Row}
@@ -38,26 +39,27 @@ use Rattle.listing.specs.Lists.{textAnswer, listSaid, Lists, InPacket, L
 use Rattle.listing.specs.declared.Listing.{Listing}
 use Rattle.listing.proofs.Sizes.{rows-short}
 
-module _ (text o : List ℕ) (size : ℕ) (s : size ≡ length text) (r : Listing) where
+module _ {text o : List ℕ} {size : ℕ} (s : size ≡ length text) {r : Listing} where
   pub does-not-fit : length o < size → listSaid r ≡ refused 18 0 0 → Lists text o r o
   unfolding textAnswer putInto
   does-not-fit h e =
       let k : length o < length text = rw s at h in
       record { answer = e ∙ rw (lt-ltb _ _ k); output = rw (zero-add, lt-leb _ _ k) }
 
-  pub fits : size ≤ length o → listSaid r ≡ given size → (o′ : List ℕ) → o′ ≡ putInto o 0 text → Lists text o r o′
+  pub fits : listSaid r ≡ given size → {n : ℕ} {o′ : List ℕ} → Wrote o 0 text n o′ → Lists text o r o′
   unfolding textAnswer
-  fits h e o′ f =
-      let k : length text ≤ length o = rw s at h in
-      record { answer = e ∙ (ap given s ∙ rw (le-ltb _ _ k)); output = f }
+  fits e w =
+      let k : length text ≤ length o = omega arith in
+      record { answer = e ∙ (ap given s ∙ rw (le-ltb _ _ k)); output = w .output }
 
-pub rows-long : (p : List ℕ) (rs : List Row) → 21 + length (linesOf p rs) ≡ length (header ++ linesOf p rs)
+pub rows-long : (p : List ℕ) (rs : List Row) {size : ℕ} → size ≡ length (linesOf p rs) → 21 + size ≡ length (header ++ linesOf p rs)
 unfolding header
-rows-long p rs = sym (length-append header (linesOf p rs))
+rows-long p rs e = ap (λ k. 21 + k) e ∙ sym (length-append header (linesOf p rs))
 
-pub refusal-long : (n place t : ℕ) → length (decimal n) + length (decimal place) + length (decimal t) + 11 ≡ length (refusedLine n place t)
+pub refusal-long : (n place t : ℕ) {a b c : ℕ} → a ≡ length (decimal n) → b ≡ length (decimal place) → c ≡ length (decimal t)
+    → a + b + c + 11 ≡ length (refusedLine n place t)
 unfolding refusedLine refusedWord field
-refusal-long n place t =
+refusal-long n place t e f g =
     rw (length-append, length-append, length-append, length-append, length-append, length-append) (omega arith)
 
 -- the rows of items that lie in the packet
@@ -68,14 +70,17 @@ rows-inside K p (i ∷ is) l =
     (rw (digits-div (i .place) (l .0 .short), digits-mod (i .place) (l .0 .short)) (l .0 .inside), rows-inside K p is (l .1))
 
 -- a receiver of the whole catalogue, with a table of its own
-module _ (p : List ℕ) (r : Reading) (t : List ℕ) (d : Reads allTags p (replicate 512 0) r t) where
-  pub lists-refusal : (x : Refusal) → r ≡ reading.Refused x → refusedLine (number (x .reason)) (x .place) (x .tag) ≡ listingOf p
+module _ {K : TagSet} (k : K ≡ allTags) {p : List ℕ} {r : Reading} {t : List ℕ} (reads : Reads K p (replicate 512 0) r t) where
+  d : Reads allTags p (replicate 512 0) r t
+  d = rw (← k) reads
+
+  pub lists-refusal : {x : Refusal} → r ≡ reading.Refused x → refusedLine (number (x .reason)) (x .place) (x .tag) ≡ listingOf p
   unfolding listingOf
-  lists-refusal x e =
+  lists-refusal {x} e =
       let q : received allTags p ≡ refusal x = received-refused allTags p (replicate 512 0) (omega arith) _ _ _ (sym (d .answer) ∙ ap readSaid e) in
       ap (textBy p) (sym q)
 
-  module _ (x : Filled) (e : r ≡ reading.Rows x) where
+  module _ {x : Filled} (e : r ≡ reading.Rows x) where
     read : Received allTags p (replicate 512 0) (x .count)
     read = has-received allTags p (replicate 512 0) (x .count) (sym (d .answer) ∙ ap readSaid e)
 
@@ -89,6 +94,8 @@ module _ (p : List ℕ) (r : Reading) (t : List ℕ) (d : Reads allTags p (repli
     pub listable : Bytes p → Listable p (rowsIn 0 (x .count) t)
     unfolding received
     listable by =
-        let f : Formed p (read .items) = accepted-allowed (holds allTags) p (read .items) by (passed (good allTags) _ 1 0 0 (read .accepted) .1) .formed in
+        let K : Knowing = holds allTags in
+        let known = passed (good allTags) _ 1 0 0 (read .accepted) .1 in
+        let f : Formed p (read .items) = accepted-allowed K p (read .items) by known .formed in
         rw same-rows
-        (record { inside = rows-inside (holds allTags) p (read .items) (formed-lie p (read .items) f); short = rows-short (holds allTags) p (f .small) (read .items) f })
+        (record { inside = rows-inside K p (read .items) (formed-lie p (read .items) f); short = rows-short K p (f .small) (read .items) f })

@@ -1,5 +1,4 @@
 pub mod Sizes
-pub mod Puts
 pub mod Texts
 pub mod Rows
 pub mod Answers

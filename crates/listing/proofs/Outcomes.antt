@@ -3,14 +3,13 @@
 -- Assumes nothing.
 use Prim.Native.Nat.{ℕ, _≤_}
 use native.Mathlib.Omega.{arith}
-use mathlib.Core.Path.{_≡_, ap, sym, _∙_}
+use mathlib.Core.Path.{_≡_, refl, sym, _∙_}
 use mathlib.Core.List.{List}
 use lib.ListN.{length}
 use borrow.Author.Tests.{le-ltb}
-use Rattle.base.specs.Cases.{never}
 use Rattle.base.specs.Determined.{Determined}
 use Rattle.refusal.specs.Answer.{given}
-use Rattle.refusal.proofs.Laws.{refusal-apart}
+use Rattle.refusal.proofs.Laws.{made, refuse-made, told-apart}
 use Rattle.number.specs.Stored.{Bytes}
 use Rattle.listing.specs.Listing.{listingOf, largest}
 use Rattle.listing.specs.Lists.{textAnswer, listSaid}
@@ -20,13 +19,16 @@ use Rattle.listing.proofs.Sizes.{listing-short}
 use Rattle.listing.proofs.list.Kinds as list-kinds
 use Rattle.listing.proofs.list.Reads as list-reads
 
+lines : ℕ → Listing
+lines n = Lines (record { size = n })
+
+as-said : (a : Listing) → made lines Refused (listSaid a) ≡ a
+unfolding lines
+as-said (Lines x) = refl
+as-said (Refused r) = refuse-made lines Refused r
+
 pub listing-apart : (a b : Listing) → listSaid a ≡ listSaid b → a ≡ b
-listing-apart (Lines x) (Lines y) e =
-    let c : x .size ≡ y .size = cc in
-    λ i. Lines (record { size = c i })
-listing-apart (Lines x) (Refused s) e = never (cc)
-listing-apart (Refused r) (Lines y) e = never (cc)
-listing-apart (Refused r) (Refused s) e = ap Refused (refusal-apart r s e)
+listing-apart = told-apart lines Refused listSaid as-said
 
 pub list-determined : Determined 2 list-kinds.ps list-kinds.r list-reads.Post (List ℕ) (λ κs e. e .1 .0 .now)
 list-determined κs a z z′ e e′ p q = (listing-apart z z′ (p .answer ∙ sym (q .answer)), p .output ∙ sym (q .output))

@@ -3,18 +3,18 @@
 use Prim.Native.Nat.{ℕ, _+_, _-_, _<_, _≤_}
 use native.Mathlib.Omega.{arith}
 use native.Mathlib.Nat.{sub-zero}
-use mathlib.Core.Path.{_≡_, refl, sym, _∙_}
+use mathlib.Core.Path.{_≡_}
 use mathlib.Core.List.{List, [], _∷_}
 use lib.ListN.{length, length-append}
 use Rattle.base.specs.Every.{Each}
-use Rattle.base.specs.Putting.{putInto, put-nothing}
+use Rattle.base.specs.Putting.{putInto, Room, Wrote}
+use Rattle.base.proofs.Putting.{to-write, wrote-room, room-first, wrote-rest, wrote-nothing}
 use Rattle.rows.specs.Kinds.{Row}
 use Rattle.rows.specs.Taken.{rowAt}
 use Rattle.packet.specs.Rows.{rowsIn}
 use Rattle.laws.proofs.Tables.{rows-from, rows-none}
 use Rattle.listing.specs.Lines.{lineOf, linesOf}
-use Rattle.listing.specs.Lists.{Room, Wrote, InPacket, Listable}
-use Rattle.listing.proofs.Puts.{room-left, room-right, wrote-both}
+use Rattle.listing.specs.Lists.{InPacket, Listable}
 
 -- rows are left, and their lines are so long
 pub record Uncounted (p : List ℕ) (rs : List Row) (size total : ℕ) : Type 0 where
@@ -24,9 +24,7 @@ pub record Uncounted (p : List ℕ) (rs : List Row) (size total : ℕ) : Type 0 
 -- rows are left, and put at a place their lines make the output x and end at a place
 pub record Unwritten (p : List ℕ) (rs : List Row) (o : List ℕ) (at : ℕ) (x : List ℕ) (end : ℕ) : Type 0 where
   pub inside : Each (InPacket p) rs
-  pub room : Room o at (linesOf p rs)
-  pub stored : putInto o at (linesOf p rs) ≡ x
-  pub ends : at + length (linesOf p rs) ≡ end
+  pub rest : Wrote o at (linesOf p rs) end x
 
 module _ (p : List ℕ) (r : Row) (rs : List Row) where
   both-long : length (linesOf p (r ∷ rs)) ≡ length (lineOf p r) + length (linesOf p rs)
@@ -39,18 +37,11 @@ module _ (p : List ℕ) (r : Row) (rs : List Row) where
   module _ {o : List ℕ} {at : ℕ} {x : List ℕ} {end : ℕ} (u : Unwritten p (r ∷ rs) o at x end) where
     line-room : Room o at (lineOf p r)
     unfolding linesOf
-    line-room = room-left o at (lineOf p r) (linesOf p rs) (u .room)
+    line-room = room-first (linesOf p rs) (wrote-room (u .rest))
 
     one-written : {m : ℕ} {o₁ : List ℕ} → Wrote o at (lineOf p r) m o₁ → Unwritten p rs o₁ m x end
     unfolding linesOf
-    one-written {m} {o₁} w =
-        let next : Wrote o₁ m (linesOf p rs) (m + length (linesOf p rs)) (putInto o₁ m (linesOf p rs)) = record { after = refl; output = refl } in
-        record {
-          inside = u .inside .1;
-          room = room-right o at (lineOf p r) (linesOf p rs) (u .room) w;
-          stored = wrote-both o at (lineOf p r) (linesOf p rs) (u .room) w next .output ∙ u .stored;
-          ends = omega (arith, u .ends, both-long, w .after);
-        }
+    one-written w = record { inside = u .inside .1; rest = wrote-rest w (u .rest) }
 
 -- the rows of a table from the one numbered n on
 module _ (p words : List ℕ) (n count : ℕ) where
@@ -79,18 +70,16 @@ module _ (p words : List ℕ) (n count : ℕ) where
       within line f = omega (arith, f, this-uncounted .sum, both-long p r after)
 
   module _ {o : List ℕ} {at : ℕ} {x : List ℕ} {end : ℕ} (u : Unwritten p left o at x end) where
-    pub all-written : count ≤ n → (at ≡ end) × (o ≡ x)
+    pub all-written : count ≤ n → (end ≡ at) × (x ≡ o)
     unfolding linesOf
-    all-written h =
-        let v : Unwritten p [] o at x end = rw (rows-none words n count h) at u in
-        (omega (arith, v .ends), sym (put-nothing o at (omega (arith, v .room))) ∙ v .stored)
+    all-written h = let v : Unwritten p [] o at x end = rw (rows-none words n count h) at u in wrote-nothing (v .rest)
 
     module _ (h : n < count) (r : Row) (e : r ≡ rowAt words n) where
       this-unwritten : Unwritten p (r ∷ after) o at x end
       this-unwritten = rw e (rw (rows-from words n count h) at u)
 
-      pub to-write : InPacket p r × Room o at (lineOf p r)
-      to-write = (this-unwritten .inside .0, line-room p r after this-unwritten)
+      pub line-asks : InPacket p r × Room o at (lineOf p r)
+      line-asks = (this-unwritten .inside .0, line-room p r after this-unwritten)
 
       pub written : {m : ℕ} {o₁ : List ℕ} → Wrote o at (lineOf p r) m o₁ → Unwritten p after o₁ m x end
       written w = one-written p r after this-unwritten w
@@ -100,6 +89,9 @@ module _ (p words : List ℕ) (count : ℕ) (l : Listable p (rowsIn 0 count word
   pub none-counted : Uncounted p (rowsIn 0 (count - 0) words) 0 (length (linesOf p (rowsIn 0 count words)))
   none-counted = rw sub-zero (record { inside = l .inside; sum = omega arith })
 
-  pub none-written : (o : List ℕ) (from : ℕ) → Room o from (linesOf p (rowsIn 0 count words))
-      → Unwritten p (rowsIn 0 (count - 0) words) o from (putInto o from (linesOf p (rowsIn 0 count words))) (from + length (linesOf p (rowsIn 0 count words)))
-  none-written o from h = rw sub-zero (record { inside = l .inside; room = h; stored = refl; ends = refl })
+  abbrev lines : List ℕ
+  lines = linesOf p (rowsIn 0 count words)
+
+  pub none-written : {o : List ℕ} {from : ℕ} → Room o from lines
+      → Unwritten p (rowsIn 0 (count - 0) words) o from (putInto o from lines) (from + length lines)
+  none-written h = rw sub-zero (record { inside = l .inside; rest = to-write h })

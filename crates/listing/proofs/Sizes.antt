@@ -29,10 +29,11 @@ use Rattle.laws.proofs.Accepted.{accepted-allowed}
 use Rattle.laws.proofs.Written.{Tagged}
 use Rattle.laws.proofs.Forward.{items-tagged}
 use Rattle.laws.proofs.Sent.{Lies, bytes-back, formed-lie}
-use Rattle.spelling.specs.Spelling.{whole}
+use Rattle.spelling.specs.Spelling.{decimal, whole}
 use Rattle.spelling.proofs.Digits.{decimal-few}
 use Rattle.spelling.proofs.Laws.{decimal-short, hex-length}
-use Rattle.listing.specs.Lines.{header, numberWord, markWord, textWord, carriedWord, refusedWord, field, numberText, contentText, lineOf, linesOf, refusedLine}
+use Rattle.listing.specs.Lines.{header, numberWord, markWord, textWord, carriedWord, refusedWord}
+use Rattle.listing.specs.Lines.{field, numberText, contentText, lineOf, linesOf, refusedLine}
 use Rattle.listing.specs.Listing.{textBy, listingOf, largest}
 
 field-short : (n k : ℕ) → 0 < k → n < 10 ^ k → length (field n) ≤ k + 1
@@ -48,7 +49,7 @@ unfolding whole
 whole-most (pos n) = omega (arith, decimal-few n)
 whole-most (negsuc n) = omega (arith, decimal-few (suc n))
 
-pub number-most : (a : Answer House) (code : ℕ) → length (numberText a code) ≤ 21
+number-most : (a : Answer House) (code : ℕ) → length (numberText a code) ≤ 21
 number-most (given h) code = whole-most (h .value)
 number-most (refused n p t) code = omega (arith, decimal-few code)
 
@@ -63,11 +64,21 @@ content-short p r =
     (λ g. rw (e, f, g, length-append) (omega (arith, hex-length (bytesAt p r))))
     (λ g. rw (e, f, g, length-append) (omega (arith, hex-length (bytesAt p r))))))
 
-pub content-small : (p : List ℕ) (r : Row) → length (contentText p r) ≤ 131098
-content-small p r =
+content-most : (p : List ℕ) (r : Row) → length (contentText p r) ≤ 131098
+content-most p r =
     let l : length (bytesAt p r) ≤ spotLength (r .spot) = rw length-take (omega arith) in
     let s : spotLength (r .spot) < 65536 = omega arith in
     omega (arith, content-short p r, l, s)
+
+-- the sizes that the code adds up
+pub number-few : (tag code : ℕ) {size : ℕ} → size ≡ length (numberText (toHouse tag code) code) → size ≤ 21
+number-few tag code e = omega (arith, number-most (toHouse tag code) code)
+
+pub decimal-fits : (n : ℕ) {size : ℕ} → size ≡ length (decimal n) → size ≤ 20
+decimal-fits n e = omega (arith, decimal-few n)
+
+pub content-few : (p : List ℕ) (r : Row) {size : ℕ} → size ≡ length (contentText p r) → size ≤ 131098
+content-few p r e = omega (arith, content-most p r)
 
 module _ (K : Knowing) (p : List ℕ) (small : length p ≤ 8192) where
   line-short : (i : Item) → Lies p i → Tagged (i .piece) → length (lineOf p (rowOf K i)) ≤ 42 + 2 * length (i .piece .value)

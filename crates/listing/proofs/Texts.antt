@@ -1,29 +1,43 @@
 -- The texts of a row by its kind, and how long they are.
 -- Assumes nothing.
-use Prim.Native.Nat.{ℕ, _+_, _*_}
+use Prim.Native.Nat.{ℕ, _+_, _*_, _-_}
 use native.Mathlib.Omega.{arith}
 use mathlib.Core.Path.{_≡_, sym, ap, _∙_}
 use mathlib.Core.List.{List, _++_}
-use lib.ListN.{length, drop, length-drop, length-append}
+use lib.ListN.{length, take, drop, length-drop, length-append}
 use lib.Seq.{length-take-le}
 use borrow.Author.Tests.{eq-eqb, ne-eqb}
+use mir.Syntax.{w64}
+use mir.Val.{SFits, toZ, ofZ}
+use mir.Facts.{toZ-ofZ}
+use Rattle.base.specs.Parts.{part-lent}
 use Rattle.rows.specs.Kinds.{Row}
 use Rattle.rows.specs.Taken.{spotPlace, spotLength}
 use Rattle.packet.specs.Rows.{bytesAt}
 use Rattle.scale.specs.Conversions.{toHouse}
 use Rattle.scale.specs.Said.{houseSaid}
+use Rattle.scale.specs.declared.House.{House}
 use Rattle.scale.specs.declared.ToHouse.{ToHouse}
-use Rattle.spelling.specs.Spelling.{decimal, hex}
+use Rattle.scale.specs.declared.ToHouse.the-variants.{Is}
+use Rattle.spelling.specs.Spelling.{decimal, whole, hex}
 use Rattle.spelling.proofs.Laws.{hex-length}
 use Rattle.listing.specs.Lines.{numberWord, markWord, textWord, carriedWord, field, numberText, contentText, lineOf}
 use Rattle.listing.specs.Lists.{InPacket}
 
 -- a reading, by what the conversion answers
-pub number-said : (tag code : ℕ) (h x : ToHouse) → houseSaid h ≡ toHouse tag code → h ≡ x
-    → numberText (houseSaid x) code ≡ numberText (toHouse tag code) code
-number-said tag code h x e f = ap (λ y. numberText (houseSaid y) code) (sym f) ∙ ap (λ a. numberText a code) e
+module _ (tag code : ℕ) {h : ToHouse} (e : houseSaid h ≡ toHouse tag code) where
+  pub number-said : {x : ToHouse} → h ≡ x → numberText (houseSaid x) code ≡ numberText (toHouse tag code) code
+  number-said f = ap (λ y. numberText (houseSaid y) code) (sym f) ∙ ap (λ a. numberText a code) e
+
+  -- in house units, as the code holds them
+  pub whole-said : {x : House} → SFits w64 (x .value) → h ≡ Is x → whole (toZ w64 (ofZ w64 (x .value))) ≡ numberText (toHouse tag code) code
+  whole-said fits f = ap whole (toZ-ofZ fits) ∙ number-said f
 
 module _ (p : List ℕ) (r : Row) where
+  -- a value as the code lends it
+  pub value-lent : hex (take (spotPlace (r .spot) + spotLength (r .spot) - spotPlace (r .spot)) (drop (spotPlace (r .spot)) p)) ≡ hex (bytesAt p r)
+  value-lent = ap hex (part-lent p (spotPlace (r .spot)) (spotLength (r .spot)))
+
   pub number-content : r .kind ≡ 1 → numberWord ++ numberText (toHouse (r .tag) (r .code)) (r .code) ≡ contentText p r
   unfolding contentText
   number-content e = rw (eq-eqb _ _ e)
@@ -65,6 +79,7 @@ module _ (p : List ℕ) (r : Row) where
         unfolding carriedWord
         carried-length k = ap (λ k. 8 + k) (sym bytes-length) ∙ (sym (length-append carriedWord (hex (bytesAt p r))) ∙ ap length (carried-content k))
 
-  pub line-length : length (decimal (spotPlace (r .spot))) + length (decimal (r .tag)) + 2 + length (contentText p r) + 1 ≡ length (lineOf p r)
+  pub line-length : {place tag content : ℕ} → place ≡ length (decimal (spotPlace (r .spot))) → tag ≡ length (decimal (r .tag))
+      → content ≡ length (contentText p r) → place + tag + 2 + content + 1 ≡ length (lineOf p r)
   unfolding lineOf field
-  line-length = rw (length-append, length-append, length-append, length-append, length-append) (omega arith)
+  line-length e f g = rw (length-append, length-append, length-append, length-append, length-append) (omega arith)

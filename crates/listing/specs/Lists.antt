@@ -27,14 +27,6 @@ pub record Lists (text o : List ℕ) (r : Listing) (o′ : List ℕ) : Type 0 wh
   pub answer : listSaid r ≡ textAnswer text o
   pub output : o′ ≡ putInto o 0 text
 
--- a text put at a place that has room for it, and the place after it
-abbrev pub Room : List ℕ → ℕ → List ℕ → Type 0
-Room o at text = at + length text ≤ length o
-
-pub record Wrote (o : List ℕ) (at : ℕ) (text : List ℕ) (next : ℕ) (o′ : List ℕ) : Type 0 where
-  pub after : next ≡ at + length text
-  pub output : o′ ≡ putInto o at text
-
 -- a row whose value lies in the packet, and rows whose lines are within the bound
 abbrev pub InPacket : List ℕ → Row → Type 0
 InPacket p r = spotPlace (r .spot) + spotLength (r .spot) ≤ length p

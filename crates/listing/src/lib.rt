@@ -3,7 +3,7 @@
 ghost use mathlib.Core.Path.{_≡_};
 ghost use mathlib.Core.List.{_++_};
 ghost use lib.ListN.{length};
-ghost use Rattle.base.specs.Putting.{putInto};
+ghost use Rattle.base.specs.Putting.{Room, Wrote};
 ghost use Rattle.refusal.specs.Numbers.{number};
 ghost use Rattle.refusal.specs.Answer.{refused};
 ghost use Rattle.packet.specs.Rows.{rowsIn, bytesAt};
@@ -11,7 +11,7 @@ ghost use Rattle.scale.specs.Conversions.{toHouse};
 ghost use Rattle.spelling.specs.Spelling.{decimal, hex};
 ghost use Rattle.listing.specs.Lines.{header, field, numberText, contentText, lineOf, linesOf, refusedLine};
 ghost use Rattle.listing.specs.Listing.{listingOf};
-ghost use Rattle.listing.specs.Lists.{Lists, listSaid, Room, Wrote, InPacket, Listable};
+ghost use Rattle.listing.specs.Lists.{Lists, listSaid, InPacket, Listable};
 use reader::Reading;
 use refusal::Reason;
 use refusal::Refusal;
@@ -196,15 +196,15 @@ fn list_rows(packet: &[u8], words: &[u64], count: usize, out: &mut [u8]) -> List
     Listing::Lines(Listed { size })
 }
 
-fn put_refusal(out: &mut [u8], n: u64, place: u64, tag: u64)
+fn put_refusal(out: &mut [u8], n: u64, place: u64, tag: u64) -> usize
     requires { ⌜ Room (now out) 0 (refusedLine n place tag) ⌝ }
-    ensures { λ _. ⌜ now (out .exit) ≡ putInto (now (out .entry)) 0 (refusedLine n place tag) ⌝ }
+    ensures { λ r. ⌜ Wrote (now (out .entry)) 0 (refusedLine n place tag) r (now (out .exit)) ⌝ }
 {
     let first = put_word(out, 0, b"refused\t");
     let second = put_field(out, first, n);
     let third = put_field(out, second, place);
     let end = put_decimal(out, third, tag);
-    put_word(out, end, b"\n");
+    put_word(out, end, b"\n")
 }
 
 // The one line of a refusal.

@@ -2,8 +2,7 @@
 -- Assumes nothing.
 use Prim.Native.Nat.{ℕ, zero, suc, _+_, _*_, _/_, _%_, _^_, _<_}
 use native.Mathlib.Omega.{arith}
-use native.Mathlib.Nat.{pow-zero, pow-suc, pow-succ', one-le-pow, add-mul, mul-assoc, mod-eq-of-lt, div-div-eq-div-mul}
-use native.Mathlib.Numerals.{add-one}
+use native.Mathlib.Nat.{pow-zero, pow-suc, pow-succ', one-le-pow, add-mul, mul-assoc, mod-eq-of-lt}
 use mathlib.Core.Path.{_≡_, refl, ap, _∙_}
 use mathlib.Core.List.{List, [], _∷_, _++_}
 use lib.ListN.{length, getD, take, drop}
@@ -12,7 +11,10 @@ use lib.Pow.{pow-add}
 use lib.Dec.{ltb}
 use mathlib.Core.Bool.{true}
 use borrow.Author.Tests.{ltb-true}
+use mir.Syntax.{w8}
+use mir.Val.{Fits}
 use Rattle.base.specs.Every.{all, both-left, both-right}
+use Rattle.base.proofs.Digits.{length-digits}
 use lib.Arith.{digits-lt, digits-div, mod-mul}
 use Rattle.number.specs.Stored.{Bytes, valueFrom, valueOf, bytesOf}
 
@@ -23,6 +25,10 @@ cons-byte a l h by (suc i) = by .byte i
 
 pub bytes-none : Bytes []
 bytes-none = record { byte = λ i. omega arith }
+
+-- a slice of bytes that is lent
+pub bytes-lent : {l : List ℕ} → ((i : ℕ) → Fits w8 (getD l i 0)) → Bytes l
+bytes-lent h = record { byte = λ i. h i .fits }
 
 pub bytes-cons : {a : ℕ} {l : List ℕ} → a < 256 → Bytes l → Bytes (a ∷ l)
 bytes-cons {a} {l} h by = record { byte = cons-byte a l h by }
@@ -83,8 +89,7 @@ value-small l by = let s : Split 0 l = value-split 0 l by in rw (s .whole) (omeg
 -- written
 pub length-bytesOf : (n x : ℕ) → length (bytesOf n x) ≡ n
 unfolding bytesOf
-length-bytesOf zero x = refl
-length-bytesOf (suc n) x = ap suc (length-bytesOf n x)
+length-bytesOf n x = length-digits 256 (λ d. d) n x
 
 pub bytes-bytesOf : (n x : ℕ) → Bytes (bytesOf n x)
 unfolding bytesOf
@@ -123,11 +128,3 @@ bytes-back n x h = value-bytes 0 n x ∙ rw (mod-eq-of-lt h) (omega arith)
 pub bits-bytes : (n : ℕ) → 2 ^ (8 * n) ≡ 256 ^ n
 bits-bytes zero = refl
 bits-bytes (suc n) = let e : 8 * suc n ≡ 8 * n + 8 = omega arith in rw (e, pow-add 2 (8 * n) 8, bits-bytes n, pow-suc 256 n)
-
--- one byte more, before those that are there
-pub one-before : (n x left : ℕ) → left ≡ x / 256 ^ n → (left % 256) ∷ bytesOf n x ≡ bytesOf (n + 1) x
-unfolding bytesOf
-one-before n x left e = rw (add-one, e)
-
-pub next-left : (n x left : ℕ) → left ≡ x / 256 ^ n → left / 256 ≡ x / 256 ^ (n + 1)
-next-left n x left e = rw (e, add-one, pow-suc) (div-div-eq-div-mul x (256 ^ n) 256)

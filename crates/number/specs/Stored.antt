@@ -1,7 +1,8 @@
 -- Document 01, Catalogue: "Numbers are stored highest byte first."
-use Prim.Native.Nat.{ℕ, zero, suc, _+_, _*_, _/_, _%_, _^_, _<_}
+use Prim.Native.Nat.{ℕ, _+_, _*_, _<_}
 use mathlib.Core.List.{List, [], _∷_}
 use lib.ListN.{getD}
+use Rattle.base.specs.Digits.{digitsIn}
 
 -- each element of the list is a byte
 pub record Bytes (l : List ℕ) : Type 0 where
@@ -15,7 +16,6 @@ valueFrom h (a ∷ l) = valueFrom (h * 256 + a) l
 abbrev pub valueOf : List ℕ → ℕ
 valueOf l = valueFrom 0 l
 
--- the n lowest bytes of x
+-- the n lowest bytes of x: its digits in base 256
 unfoldable pub bytesOf : ℕ → ℕ → List ℕ
-bytesOf zero x = []
-bytesOf (suc n) x = (x / 256 ^ n % 256) ∷ bytesOf n x
+bytesOf n x = digitsIn 256 (λ d. d) n x

@@ -5,7 +5,7 @@ use mathlib.Core.Path.{_≡_, refl, sym, ap, _∙_}
 use mathlib.Core.List.{List, [], _∷_}
 use lib.ListN.{getD}
 use Rattle.refusal.specs.Numbers.{number}
-use Rattle.refusal.specs.Answer.{Answer, refusal}
+use Rattle.refusal.specs.Answer.{Answer, given, refused, refusal}
 use Rattle.refusal.specs.declared.Refusal.{Refusal}
 use Rattle.refusal.specs.declared.Reason.{Reason}
 use Rattle.refusal.specs.declared.Reason.the-variants.{SetNotGood, TableTooShort, PacketTooLong, KeyDiffers, OuterLengthWrong, TooManyItems, TagBroken, LengthBroken, FirstNotTimeStamp, LastNotChecksum, ChecksumDiffers, LengthNotAllowed, KnownTagTwice, CodeNotAllowed, VersionMissing, RowCountTooLarge, RowBad, OutputTooShort, NoScale, NotANumber, ValueOutOfRange}
@@ -17,7 +17,7 @@ reasons =
     ∷ CodeNotAllowed ∷ VersionMissing ∷ RowCountTooLarge ∷ RowBad ∷ OutputTooShort ∷ NoScale ∷ NotANumber
     ∷ ValueOutOfRange ∷ []
 
-numbered : ℕ → Reason
+pub numbered : ℕ → Reason
 numbered n = getD reasons (n - 1) SetNotGood
 
 number-back : (r : Reason) → numbered (number r) ≡ r
@@ -54,3 +54,15 @@ refusal-apart a b e =
     let p : a .place ≡ b .place = cc in
     let t : a .tag ≡ b .tag = cc in
     λ i. record { reason = r i; place = p i; tag = t i }
+
+-- an answer made of what it says, and that no two answers say the same where each is made so
+module _ {A W : Type 0} (make : A → W) (refuse : Refusal → W) where
+  abbrev pub made : Answer A → W
+  made (given a) = make a
+  made (refused n p t) = refuse (record { reason = numbered n; place = p; tag = t })
+
+  pub refuse-made : (r : Refusal) → made (refusal r) ≡ refuse r
+  refuse-made r = ap (λ n. refuse (record { reason = n; place = r .place; tag = r .tag })) (number-back (r .reason))
+
+  pub told-apart : (said : W → Answer A) → ((w : W) → made (said w) ≡ w) → (a b : W) → said a ≡ said b → a ≡ b
+  told-apart said back a b e = sym (back a) ∙ (ap made e ∙ back b)

@@ -1,14 +1,13 @@
--- A number's digits: how many they are, counted one after the other, and one digit more before those that are there.
+-- A number's digits: how many they are, counted one after the other.
 -- Assumes nothing.
 use Prim.Native.Nat.{ℕ, zero, suc, _+_, _*_, _/_, _%_, _^_, _<_, _≤_}
 use native.Mathlib.Omega.{arith}
-use native.Mathlib.Nat.{pow-suc, div-div-eq-div-mul}
-use native.Mathlib.Numerals.{add-one}
-use mathlib.Core.Path.{_≡_, refl, ap}
-use mathlib.Core.List.{_∷_}
+use native.Mathlib.Nat.{pow-suc}
+use mathlib.Core.Path.{_≡_, refl}
 use lib.ListN.{length}
 use borrow.Author.Tests.{lt-ltb, le-ltb}
 use Rattle.base.specs.Cases.{byLt}
+use Rattle.base.proofs.Digits.{length-digits as digits-long}
 use Rattle.spelling.specs.Spelling.{digits, countFrom, decimal}
 
 -- how many digits
@@ -29,10 +28,9 @@ count-few (suc m) n =
     (λ h. rw (count-one (suc m) n h) (omega arith))
     (λ h. rw (count-more m n h) (omega (arith, count-few m (n / 10))))
 
-pub length-digits : (k n : ℕ) → length (digits k n) ≡ k
+length-digits : (k n : ℕ) → length (digits k n) ≡ k
 unfolding digits
-length-digits zero n = refl
-length-digits (suc k) n = ap suc (length-digits k n)
+length-digits k n = digits-long 10 (λ d. 48 + d) k n
 
 pub decimal-length : (n : ℕ) → length (decimal n) ≡ countFrom 19 n
 unfolding decimal
@@ -63,11 +61,3 @@ count-next n size rest c h = count-on n size rest (c .more) (c .few) (c .small) 
 
 pub count-done : (n size rest : ℕ) → Counting n size rest → rest < 10 → size ≡ length (decimal n)
 count-done n size rest c h = rw (decimal-length n) (omega (arith, count-one (c .more) rest h, c .counted))
-
--- one digit more, before those that are there
-pub one-before : (k n left : ℕ) → left ≡ n / 10 ^ k → (48 + left % 10) ∷ digits k n ≡ digits (k + 1) n
-unfolding digits
-one-before k n left e = rw (add-one, e)
-
-pub next-left : (k n left : ℕ) → left ≡ n / 10 ^ k → left / 10 ≡ n / 10 ^ (k + 1)
-next-left k n left e = rw (e, add-one, pow-suc) (div-div-eq-div-mul n (10 ^ k) 10)

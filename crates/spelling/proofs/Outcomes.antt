@@ -4,7 +4,7 @@ use Prim.Native.Nat.{ℕ}
 use mathlib.Core.Path.{sym, _∙_}
 use mathlib.Core.List.{List}
 use Rattle.base.specs.Determined.{Determined, Answered}
-use Rattle.base.specs.Putting.{puts-once}
+use Rattle.base.proofs.Putting.{puts-once}
 use Rattle.spelling.proofs.decimal_size.Kinds as decimal-size-kinds
 use Rattle.spelling.proofs.decimal_size.Reads as decimal-size-reads
 use Rattle.spelling.proofs.whole_size.Kinds as whole-size-kinds

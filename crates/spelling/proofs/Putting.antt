@@ -1,4 +1,4 @@
--- Text put at a place: byte after byte, and digits in a part that is lent.
+-- Text put at a place: two digits for each byte, and digits in a part that is lent.
 -- Assumes nothing.
 use Prim.Native.Nat.{ℕ, _+_, _*_, _-_, _/_, _%_, _<_, _≤_}
 use native.Mathlib.Omega.{arith}
@@ -6,21 +6,13 @@ use native.Mathlib.Numerals.{add-one}
 use mathlib.Core.Path.{_≡_, refl, sym, ap, _∙_}
 use mathlib.Core.List.{List, [], _∷_, _++_, append-assoc}
 use lib.ListN.{length, getD, take, set, length-append}
-use lib.Seq.{set-split, take-suc, length-take-le}
+use lib.Seq.{take-suc, length-take-le}
 use borrow.Rule.Slice.PartMut.{midOf, putMid}
-use Rattle.base.specs.Putting.{Puts, putInto, put-room, put-length, put-more, part-length, part-put, all-put}
+use Rattle.base.specs.Putting.{Puts, putInto}
+use Rattle.base.proofs.Putting.{put-length, put-more, put-one, put-next, part-length, part-put, all-put}
 use Rattle.spelling.specs.Spelling.{digits, decimal, hexDigit, hex}
 use Rattle.spelling.proofs.Digits.{decimal-length}
 use Rattle.spelling.proofs.Laws.{hex-length}
-
-put-one : (o : List ℕ) (at b : ℕ) → at < length o → set o at b ≡ putInto o at (b ∷ [])
-put-one o at b h = set-split o at b h ∙ sym (put-room o at (b ∷ []) (omega arith) ∙ rw add-one)
-
--- one byte more
-put-next : (o : List ℕ) (at : ℕ) (bs : List ℕ) (b : ℕ) → at + length bs < length o
-    → set (putInto o at bs) (at + length bs) b ≡ putInto o at (bs ++ (b ∷ []))
-put-next o at bs b h =
-    put-one (putInto o at bs) (at + length bs) b (rw (put-length o at bs (omega arith)) h) ∙ put-more o at bs (b ∷ []) (omega arith)
 
 hex-append : (l m : List ℕ) → hex (l ++ m) ≡ hex l ++ hex m
 unfolding hex
@@ -32,15 +24,8 @@ hex-next : (l : List ℕ) (i : ℕ) → i < length l
 unfolding hex
 hex-next l i h = rw (add-one, take-suc l i 0 h, hex-append)
 
+-- two digits more
 module _ (o : List ℕ) (at : ℕ) (out : List ℕ) (i : ℕ) (l : List ℕ) (h : i < length l) where
-  pub text-next : at + length l ≤ length o → out ≡ putInto o at (take i l) → set out (at + i) (getD l i 0) ≡ putInto o at (take (i + 1) l)
-  text-next room e =
-      let k : length (take i l) ≡ i = length-take-le i l (omega arith) in
-      let next : set (putInto o at (take i l)) (at + i) (getD l i 0) ≡ putInto o at (take i l ++ (getD l i 0 ∷ [])) =
-      rw k at (put-next o at (take i l) (getD l i 0) (rw k (omega arith))) in
-      rw (e, add-one, take-suc l i 0 h) next
-
-  -- two digits more
   pub hex-put : (high low : ℕ) → high ≡ hexDigit (getD l i 0 / 16) → low ≡ hexDigit (getD l i 0 % 16) → at + 2 * length l ≤ length o
       → out ≡ putInto o at (hex (take i l)) → set (set out (at + 2 * i) high) (at + 2 * i + 1) low ≡ putInto o at (hex (take (i + 1) l))
   hex-put high low eh el room e =

@@ -1,14 +1,14 @@
 -- Numbers in decimal and bytes in hexadecimal, as ASCII text.
-use Prim.Native.Nat.{ℕ, zero, suc, _+_, _/_, _%_, _^_}
+use Prim.Native.Nat.{ℕ, zero, suc, _+_, _/_, _%_}
 use mathlib.Core.Bool.{cond}
 use mathlib.Core.List.{List, [], _∷_}
 use lib.Dec.{ltb}
 use lib.IntN.{ℤ, pos, negsuc}
+use Rattle.base.specs.Digits.{digitsIn}
 
 -- the k lowest digits of n, the highest first
 unfoldable pub digits : ℕ → ℕ → List ℕ
-digits zero n = []
-digits (suc k) n = (48 + n / 10 ^ k % 10) ∷ digits k n
+digits k n = digitsIn 10 (λ d. 48 + d) k n
 
 -- how many digits n has; at most so many more than one
 unfoldable pub countFrom : ℕ → ℕ → ℕ

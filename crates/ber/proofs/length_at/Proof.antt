@@ -6,7 +6,7 @@ use Prim.Native.Nat.{ℕ, _+_, _-_}
 use lib.ListN.{drop, length-drop}
 use Rattle.base.specs.Cases.{cases}
 use Rattle.base.specs.Parts.{byte-at, nil-at}
-use Rattle.number.proofs.Laws.{bytes-drop}
+use Rattle.number.proofs.Laws.{bytes-drop, bytes-lent}
 use Rattle.ber.proofs.Sizes.{value-whole}
 use mathlib.Core.Path.{_≡_}
 use Rattle.ber.specs.Read.{readLength}
@@ -43,7 +43,9 @@ sub-if5 c = search needs
 
 returns-5 : tie.Need-returns-5
 unfolding readLength
-returns-5 c = rw (byte-at _ _ (c .before .before .before .before .wide .ensures .0) (c .before .before .before .before .before .before .if1 .left), length-drop) (search cases)
+returns-5 c =
+    let s = c .before .before .before .before in
+    rw (byte-at _ _ (s .wide .ensures .0) (s .before .before .if1 .left), length-drop) (search cases)
 
 add-end : tie.Need-add-end
 add-end c = search needs
@@ -66,13 +68,15 @@ add-t12 c = search needs
 returns-6 : tie.Need-returns-6
 unfolding readLength
 returns-6 c =
-    let w = c .before .before .before .before .before .before .wide in
-    let a = c .before .before .before .before .before .before .before .before .before .before .args in
+    let s = c .before .before .before .before .before .before in
+    let w = s .wide in
+    let a = s .before .before .before .before .args in
     let n : ℕ = w .result - 128 in
     let l = drop (a .at + 1) (a .s .now) in
     let e : a .at + 1 + n - (a .at + 1) ≡ n = omega arith in
-    let v = value-whole l (bytes-drop (a .at + 1) (record { byte = λ i. c .before .before .before .before .before .before .before .before .before .shared-slice-known .given i .fits })) n (omega arith) (c .value .result) (rw e at (c .value .ensures)) in
-    rw (byte-at _ _ (w .ensures .0) (c .before .before .before .before .before .before .before .before .if1 .left), length-drop, ← v) (search cases)
+    let by = bytes-drop (a .at + 1) (bytes-lent (s .before .before .before .shared-slice-known .given)) in
+    let v = value-whole l by n (omega arith) (c .value .result) (rw e at (c .value .ensures)) in
+    rw (byte-at _ _ (w .ensures .0) (s .before .before .if1 .left), length-drop, ← v) (search cases)
 
 pub length-at-spec : {M : Type 1} → statement M
 length-at-spec =

@@ -4,8 +4,7 @@ use Prim.Native.Nat.{_+_}
 use mathlib.Core.Path.{ap, _∙_}
 use native.Mathlib.Omega.{arith}
 use borrow.Author.Needs.{needs}
-use Rattle.scale.specs.Conversions.{toHouse}
-use Rattle.listing.proofs.Sizes.{number-most}
+use Rattle.listing.proofs.Sizes.{number-few}
 use Rattle.listing.proofs.Texts.{number-length, mark-length, text-length, carried-length}
 use Rattle.listing.proofs.content_size.Statement.{statement}
 use Rattle.listing.proofs.content_size.Tie as tie
@@ -14,7 +13,7 @@ number-size-requires : tie.Need-number-size-requires
 number-size-requires c κs = search needs
 
 add-result : tie.Need-add-result
-add-result c = omega (arith, c .number-size .ensures, number-most (toHouse (c .before .before .before .before .before .args .row .tag) (c .before .before .before .before .before .args .row .code)) (c .before .before .before .before .before .args .row .code))
+add-result c = let r = c .before .before .before .before .before .args .row in omega (arith, number-few (r .tag) (r .code) (c .number-size .ensures))
 
 returns : tie.Need-returns
 returns c = ap (λ k. 7 + k) (c .number-size .ensures) ∙ number-length _ _ (c .before .if1 .taken)
@@ -29,7 +28,9 @@ add-result-2 : tie.Need-add-result-2
 add-result-2 c = search needs
 
 returns-3 : tie.Need-returns-3
-returns-3 c = text-length _ _ (c .before .before .before .before .if1 .left) (c .before .before .if2 .left) (c .before .before .before .before .before .before .before .before .pre) (c .if3 .taken)
+returns-3 c =
+    let s = c .before .before .before .before in
+    text-length _ _ (s .if1 .left) (c .before .before .if2 .left) (s .before .before .before .before .pre) (c .if3 .taken)
 
 mul-result-2 : tie.Need-mul-result-2
 mul-result-2 c = search needs
@@ -38,7 +39,9 @@ add-result-3 : tie.Need-add-result-3
 add-result-3 c = search needs
 
 returns-4 : tie.Need-returns-4
-returns-4 c = carried-length _ _ (c .before .before .before .before .if1 .left) (c .before .before .if2 .left) (c .before .before .before .before .before .before .before .before .pre) (c .if3 .left)
+returns-4 c =
+    let s = c .before .before .before .before in
+    carried-length _ _ (s .if1 .left) (c .before .before .if2 .left) (s .before .before .before .before .pre) (c .if3 .left)
 
 pub content-size-spec : {M : Type 1} → statement M
 content-size-spec =

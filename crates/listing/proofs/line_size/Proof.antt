@@ -1,10 +1,8 @@
 -- `listing::line_size` meets its contract.
 -- Assumes nothing.
-use Prim.Native.Nat.{_/_}
 use native.Mathlib.Omega.{arith}
 use borrow.Author.Needs.{needs}
-use Rattle.spelling.proofs.Digits.{decimal-few}
-use Rattle.listing.proofs.Sizes.{content-small}
+use Rattle.listing.proofs.Sizes.{decimal-fits, content-few}
 use Rattle.listing.proofs.Texts.{line-length}
 use Rattle.listing.proofs.line_size.Statement.{statement}
 use Rattle.listing.proofs.line_size.Tie as tie
@@ -16,22 +14,34 @@ decimal-size-requires-2 : tie.Need-decimal-size-requires-2
 decimal-size-requires-2 c κs = search needs
 
 add-fields : tie.Need-add-fields
-add-fields c = omega (arith, c .before .decimal-size .ensures, c .decimal-size2 .ensures, decimal-few (c .before .before .before .before .args .row .spot / 65536), decimal-few (c .before .before .before .before .args .row .tag))
+add-fields c = omega (arith, decimal-fits _ (c .before .decimal-size .ensures), decimal-fits _ (c .decimal-size2 .ensures))
 
 add-fields-2 : tie.Need-add-fields-2
-add-fields-2 c = omega (arith, c .before .decimal-size .ensures, c .decimal-size2 .ensures, decimal-few (c .before .before .before .before .args .row .spot / 65536), decimal-few (c .before .before .before .before .args .row .tag))
+add-fields-2 c = omega (arith, decimal-fits _ (c .before .decimal-size .ensures), decimal-fits _ (c .decimal-size2 .ensures))
 
 content-size-requires : tie.Need-content-size-requires
 content-size-requires c κs = search needs
 
 add-result : tie.Need-add-result
-add-result c = omega (arith, c .before .before .decimal-size .ensures, c .before .decimal-size2 .ensures, decimal-few (c .before .before .before .before .before .args .row .spot / 65536), decimal-few (c .before .before .before .before .before .args .row .tag), c .content-size .ensures, content-small (c .before .before .before .before .before .args .packet .now) (c .before .before .before .before .before .args .row))
+add-result c =
+    omega (
+      arith,
+      decimal-fits _ (c .before .before .decimal-size .ensures),
+      decimal-fits _ (c .before .decimal-size2 .ensures),
+      content-few _ _ (c .content-size .ensures),
+    )
 
 add-result-2 : tie.Need-add-result-2
-add-result-2 c = omega (arith, c .before .before .decimal-size .ensures, c .before .decimal-size2 .ensures, decimal-few (c .before .before .before .before .before .args .row .spot / 65536), decimal-few (c .before .before .before .before .before .args .row .tag), c .content-size .ensures, content-small (c .before .before .before .before .before .args .packet .now) (c .before .before .before .before .before .args .row))
+add-result-2 c =
+    omega (
+      arith,
+      decimal-fits _ (c .before .before .decimal-size .ensures),
+      decimal-fits _ (c .before .decimal-size2 .ensures),
+      content-few _ _ (c .content-size .ensures),
+    )
 
 returns : tie.Need-returns
-returns c = omega (arith, c .before .before .decimal-size .ensures, c .before .decimal-size2 .ensures, c .content-size .ensures, line-length (c .before .before .before .before .before .args .packet .now) (c .before .before .before .before .before .args .row))
+returns c = line-length _ _ (c .before .before .decimal-size .ensures) (c .before .decimal-size2 .ensures) (c .content-size .ensures)
 
 pub line-size-spec : {M : Type 1} → statement M
 line-size-spec =

@@ -26,7 +26,10 @@ line-size-requires : tie.Need-line-size-requires Inv-loop μ-loop
 line-size-requires c κs = to-count _ _ _ _ (c .before .before .loop .inv .1) (c .before .loop-test .taken) _ (c .row-at .ensures)
 
 add-size : tie.Need-add-size Inv-loop μ-loop
-add-size c = omega (arith, within _ _ _ _ (c .before .before .before .loop .inv .1) (c .before .before .loop-test .taken) _ (c .before .row-at .ensures) _ (c .line-size .ensures), c .before .before .before .before .before .before .pre .short)
+add-size c =
+    let s = c .before .before .before in
+    let all = within _ _ _ _ (s .loop .inv .1) (c .before .before .loop-test .taken) _ (c .before .row-at .ensures) _ (c .line-size .ensures) in
+    omega (arith, all, s .before .before .before .pre .short)
 
 add-n : tie.Need-add-n Inv-loop μ-loop
 add-n c = omega (arith, c .before .before .loop-test .taken, c .before .before .before .before .before .before .good)
@@ -35,7 +38,10 @@ loop-less : tie.Need-loop-less Inv-loop μ-loop
 loop-less c = omega (arith, c .before .before .loop-test .taken)
 
 loop-again : tie.Need-loop-again Inv-loop μ-loop
-loop-again c = (omega (arith, c .before .before .loop-test .taken), counted _ _ _ _ (c .before .before .before .loop .inv .1) (c .before .before .loop-test .taken) _ (c .before .row-at .ensures) _ (c .line-size .ensures))
+loop-again c = (
+  omega (arith, c .before .before .loop-test .taken),
+  counted _ _ _ _ (c .before .before .before .loop .inv .1) (c .before .before .loop-test .taken) _ (c .before .row-at .ensures) _ (c .line-size .ensures),
+)
 
 returns : tie.Need-returns Inv-loop μ-loop
 returns c = all-counted _ _ _ _ (c .before .loop .inv .1) (c .loop-test .left)

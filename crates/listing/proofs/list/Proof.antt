@@ -1,9 +1,7 @@
 -- `listing::list` meets its contract.
 -- Assumes nothing.
 use borrow.Author.Needs.{needs}
-use lib.ListN.{replicate}
-use Rattle.reader.specs.Reads.{Reads}
-use Rattle.catalogue.specs.Rows.{allTags}
+use Rattle.number.proofs.Laws.{bytes-lent}
 use Rattle.listing.proofs.Answers.{lists-refusal, lists-rows, listable}
 use Rattle.listing.proofs.list.Statement.{statement}
 use Rattle.listing.proofs.list.Tie as tie
@@ -31,24 +29,27 @@ slice-aggregate-list-rows c = search needs
 
 list-rows-requires : tie.Need-list-rows-requires
 list-rows-requires c κs =
-    let d : Reads allTags (c .before .before .before .before .before .before .before .before .before .before .before .args .packet .now) (replicate 512 0) (c .before .before .before .before .before .before .read .result) (c .before .before .before .before .before .before .read .last .1 .1 .0) = rw (← c .before .before .before .before .before .before .before .before .all-tags .ensures) (c .before .before .before .before .before .before .read .ensures) in
-    listable _ _ _ d _ (c .before .before .before .filled .given .1) (record { byte = λ i. c .before .before .before .before .before .before .before .before .before .before .shared-slice-known .given i .fits })
+    let s = c .before .before .before .before .before .before in
+    let by = bytes-lent (s .before .before .before .before .shared-slice-known .given) in
+    listable (s .before .before .all-tags .ensures) (s .read .ensures) (c .before .before .before .filled .given .1) by
 
 same-length : tie.Need-same-length
 same-length c = search needs
 
 returns : tie.Need-returns
 returns c =
-    let d : Reads allTags (c .before .before .before .before .before .before .before .before .before .before .before .before .before .args .packet .now) (replicate 512 0) (c .before .before .before .before .before .before .before .before .read .result) (c .before .before .before .before .before .before .before .before .read .last .1 .1 .0) = rw (← c .before .before .before .before .before .before .before .before .before .before .all-tags .ensures) (c .before .before .before .before .before .before .before .before .read .ensures) in
-    rw (← lists-refusal _ _ _ d _ (c .before .before .before .before .before .refusal .given .1)) (c .before .before .list-refusal .ensures)
+    let s = c .before .before .before .before .before .before .before .before in
+    let text = lists-refusal (s .before .before .all-tags .ensures) (s .read .ensures) (c .before .before .before .before .before .refusal .given .1) in
+    rw (← text) (c .before .before .list-refusal .ensures)
 
 same-length-2 : tie.Need-same-length-2
 same-length-2 c = search needs
 
 returns-2 : tie.Need-returns-2
 returns-2 c =
-    let d : Reads allTags (c .before .before .before .before .before .before .before .before .before .before .before .before .before .before .args .packet .now) (replicate 512 0) (c .before .before .before .before .before .before .before .before .before .read .result) (c .before .before .before .before .before .before .before .before .before .read .last .1 .1 .0) = rw (← c .before .before .before .before .before .before .before .before .before .before .before .all-tags .ensures) (c .before .before .before .before .before .before .before .before .before .read .ensures) in
-    rw (← lists-rows _ _ _ d _ (c .before .before .before .before .before .before .filled .given .1)) (c .before .before .list-rows .ensures)
+    let s = c .before .before .before .before .before .before .before .before .before in
+    let text = lists-rows (s .before .before .all-tags .ensures) (s .read .ensures) (c .before .before .before .before .before .before .filled .given .1) in
+    rw (← text) (c .before .before .list-rows .ensures)
 
 pub list-spec : {M : Type 1} → statement M
 list-spec =

@@ -5,9 +5,7 @@ use borrow.Author.Needs.{needs}
 use lib.ListN.{length}
 use mir.Syntax.{w64}
 use mir.Val.{SFits}
-use mir.Facts.{toZ-ofZ}
-use Rattle.spelling.specs.Spelling.{whole}
-use Rattle.listing.proofs.Texts.{number-said}
+use Rattle.listing.proofs.Texts.{number-said, whole-said}
 use Rattle.listing.proofs.number_size.Statement.{statement}
 use Rattle.listing.proofs.number_size.Tie as tie
 
@@ -28,11 +26,12 @@ decimal-size-requires c κs = search needs
 
 returns : tie.Need-returns
 returns c =
-    let fits : SFits w64 (c .before .before .before .house .given .0 .0 .value) = search needs in
-    c .whole-size .ensures ∙ (ap (λ v. length (whole v)) (toZ-ofZ fits) ∙ ap length (number-said _ _ (c .before .before .before .before .before .to-house .result) _ (c .before .before .before .before .before .to-house .ensures) (c .before .before .before .house .given .1)))
+    let s = c .before .before .before in
+    let fits : SFits w64 (s .house .given .0 .0 .value) = search needs in
+    c .whole-size .ensures ∙ ap length (whole-said _ _ (s .before .before .to-house .ensures) fits (s .house .given .1))
 
 returns-2 : tie.Need-returns-2
-returns-2 c = c .decimal-size .ensures ∙ ap length (number-said _ _ (c .before .before .before .to-house .result) _ (c .before .before .before .to-house .ensures) (c .before .enum-told .given .1))
+returns-2 c = c .decimal-size .ensures ∙ ap length (number-said _ _ (c .before .before .before .to-house .ensures) (c .before .enum-told .given .1))
 
 pub number-size-spec : {M : Type 1} → statement M
 number-size-spec =

@@ -2,7 +2,7 @@
 -- Assumes nothing.
 use native.Mathlib.Omega.{arith}
 use borrow.Author.Needs.{needs}
-use Rattle.listing.proofs.Puts.{puts-inside, puts-wrote}
+use Rattle.base.proofs.Putting.{puts-wrote}
 use Rattle.listing.proofs.put_decimal.Statement.{statement}
 use Rattle.listing.proofs.put_decimal.Tie as tie
 
@@ -10,13 +10,15 @@ put-decimal-requires : tie.Need-put-decimal-requires
 put-decimal-requires c κs = search needs
 
 add-result : tie.Need-add-result
-add-result c = omega (arith, puts-inside (c .before .before .put-decimal .ensures) (c .before .before .before .before .before .pre), c .before .before .before .before .before .good)
+add-result c =
+    let s = c .before .before .before .before .before in
+    omega (arith, puts-wrote (s .pre) (c .before .before .put-decimal .ensures) .inside, s .good)
 
 same-length : tie.Need-same-length
 same-length c = search needs
 
 returns : tie.Need-returns
-returns c = puts-wrote (c .before .before .put-decimal .ensures) (c .before .before .before .before .before .pre)
+returns c = puts-wrote (c .before .before .before .before .before .pre) (c .before .before .put-decimal .ensures)
 
 pub put-decimal-spec : {M : Type 1} → statement M
 put-decimal-spec = tie.close (tie.spec put-decimal-requires add-result same-length returns)

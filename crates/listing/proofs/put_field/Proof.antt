@@ -1,29 +1,28 @@
 -- `listing::put_field` meets its contract.
 -- Assumes nothing.
 use borrow.Author.Needs.{needs}
-use Rattle.spelling.specs.Spelling.{decimal}
-use Rattle.listing.specs.Lines.{field, tab}
-use Rattle.listing.proofs.Puts.{room-left, room-right, wrote-both}
+use Rattle.base.proofs.Putting.{room-first, room-after, wrote-then}
+use Rattle.listing.specs.Lines.{field}
 use Rattle.listing.proofs.put_field.Statement.{statement}
 use Rattle.listing.proofs.put_field.Tie as tie
 
 put-decimal-requires : tie.Need-put-decimal-requires
 unfolding field
-put-decimal-requires c κs = room-left (c .before .before .args .out .now) _ (decimal _) tab (c .before .before .pre)
+put-decimal-requires c κs = room-first _ (c .before .before .pre)
 
 slice-aggregate-put-word : tie.Need-slice-aggregate-put-word
 slice-aggregate-put-word c = search needs
 
 put-word-requires : tie.Need-put-word-requires
 unfolding field
-put-word-requires c κs = room-right _ _ (decimal _) tab (c .before .before .before .before .before .before .before .pre) (c .before .before .before .before .put-decimal .ensures)
+put-word-requires c κs = room-after (c .before .before .before .before .put-decimal .ensures) (c .before .before .before .before .before .before .before .pre)
 
 same-length : tie.Need-same-length
 same-length c = search needs
 
 returns : tie.Need-returns
 unfolding field
-returns c = wrote-both _ _ (decimal _) tab (c .before .before .before .before .before .before .before .before .before .before .pre) (c .before .before .before .before .before .before .before .put-decimal .ensures) (c .before .before .put-word .ensures)
+returns c = wrote-then (c .before .before .before .before .before .before .before .put-decimal .ensures) (c .before .before .put-word .ensures)
 
 pub put-field-spec : {M : Type 1} → statement M
 put-field-spec =

@@ -1,14 +1,11 @@
 -- `listing::put_number` meets its contract.
 -- Assumes nothing.
-use mathlib.Core.Path.{ap, _∙_}
 use native.Mathlib.Omega.{arith}
 use borrow.Author.Needs.{needs}
 use mir.Syntax.{w64}
 use mir.Val.{SFits}
-use mir.Facts.{toZ-ofZ}
-use Rattle.spelling.specs.Spelling.{whole}
-use Rattle.listing.proofs.Puts.{puts-inside, puts-wrote, room-of, wrote-as}
-use Rattle.listing.proofs.Texts.{number-said}
+use Rattle.base.proofs.Putting.{puts-as, room-of, wrote-as}
+use Rattle.listing.proofs.Texts.{number-said, whole-said}
 use Rattle.listing.proofs.put_number.Statement.{statement}
 use Rattle.listing.proofs.put_number.Tie as tie
 
@@ -23,30 +20,37 @@ put-whole-requires c κs = search needs
 
 add-result : tie.Need-add-result
 add-result c =
-    let fits : SFits w64 (c .before .before .before .before .before .before .house .given .0 .0 .value) = search needs in
-    let e = ap whole (toZ-ofZ fits) ∙ number-said (c .before .before .before .before .before .before .before .before .before .before .args .tag) (c .before .before .before .before .before .before .before .before .before .before .args .code) (c .before .before .before .before .before .before .before .before .to-house .result) _ (c .before .before .before .before .before .before .before .before .to-house .ensures) (c .before .before .before .before .before .before .house .given .1) in
-    omega (arith, puts-inside (c .before .before .put-whole .ensures) (room-of (c .before .before .before .before .before .before .before .before .before .before .args .out .now) (c .before .before .before .before .before .before .before .before .before .before .args .at) e (c .before .before .before .before .before .before .before .before .before .before .pre)), c .before .before .before .before .before .before .before .before .before .before .good)
+    let s = c .before .before .before .before .before .before in
+    let fits : SFits w64 (s .house .given .0 .0 .value) = search needs in
+    let text = whole-said _ _ (s .before .before .to-house .ensures) fits (s .house .given .1) in
+    let start = s .before .before .before .before in
+    omega (arith, puts-as text (start .pre) (c .before .before .put-whole .ensures) .inside, start .good)
 
 enum-told : tie.Need-enum-told
 enum-told c = search needs
 
 put-decimal-requires : tie.Need-put-decimal-requires
-put-decimal-requires c κs = room-of (c .before .before .before .before .before .args .out .now) (c .before .before .before .before .before .args .at) (number-said _ _ (c .before .before .before .to-house .result) _ (c .before .before .before .to-house .ensures) (c .before .enum-told .given .1)) (c .before .before .before .before .before .pre)
+put-decimal-requires c κs =
+    let s = c .before .before .before in
+    room-of (number-said _ _ (s .to-house .ensures) (c .before .enum-told .given .1)) (s .before .before .pre)
 
 same-length : tie.Need-same-length
 same-length c = search needs
 
 returns : tie.Need-returns
 returns c =
-    let fits : SFits w64 (c .before .before .before .before .before .before .house .given .0 .0 .value) = search needs in
-    let e = ap whole (toZ-ofZ fits) ∙ number-said (c .before .before .before .before .before .before .before .before .before .before .args .tag) (c .before .before .before .before .before .before .before .before .before .before .args .code) (c .before .before .before .before .before .before .before .before .to-house .result) _ (c .before .before .before .before .before .before .before .before .to-house .ensures) (c .before .before .before .before .before .before .house .given .1) in
-    wrote-as e (puts-wrote (c .before .before .put-whole .ensures) (room-of (c .before .before .before .before .before .before .before .before .before .before .args .out .now) (c .before .before .before .before .before .before .before .before .before .before .args .at) e (c .before .before .before .before .before .before .before .before .before .before .pre)))
+    let s = c .before .before .before .before .before .before in
+    let fits : SFits w64 (s .house .given .0 .0 .value) = search needs in
+    let text = whole-said _ _ (s .before .before .to-house .ensures) fits (s .house .given .1) in
+    puts-as text (s .before .before .before .before .pre) (c .before .before .put-whole .ensures)
 
 same-length-2 : tie.Need-same-length-2
 same-length-2 c = search needs
 
 returns-2 : tie.Need-returns-2
-returns-2 c = wrote-as (number-said _ _ (c .before .before .before .before .before .before .to-house .result) _ (c .before .before .before .before .before .before .to-house .ensures) (c .before .before .before .before .enum-told .given .1)) (c .before .before .put-decimal .ensures)
+returns-2 c =
+    let s = c .before .before .before .before in
+    wrote-as (number-said _ _ (s .before .before .to-house .ensures) (s .enum-told .given .1)) (c .before .before .put-decimal .ensures)
 
 pub put-number-spec : {M : Type 1} → statement M
 put-number-spec =

@@ -1,11 +1,8 @@
 -- `listing::put_refusal` meets its contract.
 -- Assumes nothing.
-use mathlib.Core.List.{_++_}
 use borrow.Author.Needs.{needs}
-use Rattle.spelling.specs.Spelling.{decimal}
-use Rattle.listing.specs.Lines.{refusedWord, refusedLine, newline, field}
-use Rattle.listing.specs.Lists.{Wrote}
-use Rattle.listing.proofs.Puts.{room-left, room-right, wrote-both}
+use Rattle.base.proofs.Putting.{room-first, room-after, wrote-then}
+use Rattle.listing.specs.Lines.{refusedWord, refusedLine}
 use Rattle.listing.proofs.put_refusal.Statement.{statement}
 use Rattle.listing.proofs.put_refusal.Tie as tie
 
@@ -14,26 +11,44 @@ slice-aggregate-put-word c = search needs
 
 put-word-requires : tie.Need-put-word-requires
 unfolding refusedLine refusedWord
-put-word-requires c κs = room-left (c .before .before .before .args .out .now) 0 refusedWord ((field (c .before .before .before .args .n)) ++ ((field (c .before .before .before .args .place)) ++ ((decimal (c .before .before .before .args .tag)) ++ newline))) (c .before .before .before .pre)
+put-word-requires c κs = room-first _ (c .before .before .before .pre)
 
 put-field-requires : tie.Need-put-field-requires
 unfolding refusedLine refusedWord
-put-field-requires c κs = room-left (c .before .before .before .put-word .last .0) _ (field (c .before .before .before .before .before .before .before .args .n)) ((field (c .before .before .before .before .before .before .before .args .place)) ++ ((decimal (c .before .before .before .before .before .before .before .args .tag)) ++ newline)) (room-right (c .before .before .before .before .before .before .before .args .out .now) 0 refusedWord ((field (c .before .before .before .before .before .before .before .args .n)) ++ ((field (c .before .before .before .before .before .before .before .args .place)) ++ ((decimal (c .before .before .before .before .before .before .before .args .tag)) ++ newline))) (c .before .before .before .before .before .before .before .pre) (c .before .before .before .put-word .ensures))
+put-field-requires c κs =
+    let s = c .before .before .before in
+    room-first _ (room-after (s .put-word .ensures) (s .before .before .before .before .pre))
 
 put-field-requires-2 : tie.Need-put-field-requires-2
 unfolding refusedLine refusedWord
-put-field-requires-2 c κs = room-left (c .before .before .before .put-field .last .0) _ (field (c .before .before .before .before .before .before .before .before .before .before .before .args .place)) ((decimal (c .before .before .before .before .before .before .before .before .before .before .before .args .tag)) ++ newline) (room-right _ _ (field (c .before .before .before .before .before .before .before .before .before .before .before .args .n)) ((field (c .before .before .before .before .before .before .before .before .before .before .before .args .place)) ++ ((decimal (c .before .before .before .before .before .before .before .before .before .before .before .args .tag)) ++ newline)) (room-right (c .before .before .before .before .before .before .before .before .before .before .before .args .out .now) 0 refusedWord ((field (c .before .before .before .before .before .before .before .before .before .before .before .args .n)) ++ ((field (c .before .before .before .before .before .before .before .before .before .before .before .args .place)) ++ ((decimal (c .before .before .before .before .before .before .before .before .before .before .before .args .tag)) ++ newline))) (c .before .before .before .before .before .before .before .before .before .before .before .pre) (c .before .before .before .before .before .before .before .put-word .ensures)) (c .before .before .before .put-field .ensures))
+put-field-requires-2 c κs =
+    let s = c .before .before .before in
+    let t = s .before .before .before .before in
+    room-first _ (room-after (s .put-field .ensures) (room-after (t .put-word .ensures) (t .before .before .before .before .pre)))
 
 put-decimal-requires : tie.Need-put-decimal-requires
 unfolding refusedLine refusedWord
-put-decimal-requires c κs = room-left (c .before .before .before .put-field2 .last .0) _ (decimal (c .before .before .before .before .before .before .before .before .before .before .before .before .before .before .before .args .tag)) newline (room-right _ _ (field (c .before .before .before .before .before .before .before .before .before .before .before .before .before .before .before .args .place)) ((decimal (c .before .before .before .before .before .before .before .before .before .before .before .before .before .before .before .args .tag)) ++ newline) (room-right _ _ (field (c .before .before .before .before .before .before .before .before .before .before .before .before .before .before .before .args .n)) ((field (c .before .before .before .before .before .before .before .before .before .before .before .before .before .before .before .args .place)) ++ ((decimal (c .before .before .before .before .before .before .before .before .before .before .before .before .before .before .before .args .tag)) ++ newline)) (room-right (c .before .before .before .before .before .before .before .before .before .before .before .before .before .before .before .args .out .now) 0 refusedWord ((field (c .before .before .before .before .before .before .before .before .before .before .before .before .before .before .before .args .n)) ++ ((field (c .before .before .before .before .before .before .before .before .before .before .before .before .before .before .before .args .place)) ++ ((decimal (c .before .before .before .before .before .before .before .before .before .before .before .before .before .before .before .args .tag)) ++ newline))) (c .before .before .before .before .before .before .before .before .before .before .before .before .before .before .before .pre) (c .before .before .before .before .before .before .before .before .before .before .before .put-word .ensures)) (c .before .before .before .before .before .before .before .put-field .ensures)) (c .before .before .before .put-field2 .ensures))
+put-decimal-requires c κs =
+    let s = c .before .before .before in
+    let t = s .before .before .before .before in
+    let u = t .before .before .before .before in
+    room-first _
+    (room-after (s .put-field2 .ensures)
+    (room-after (t .put-field .ensures) (room-after (u .put-word .ensures) (u .before .before .before .before .pre))))
 
 slice-aggregate-put-word-2 : tie.Need-slice-aggregate-put-word-2
 slice-aggregate-put-word-2 c = search needs
 
 put-word-requires-2 : tie.Need-put-word-requires-2
 unfolding refusedLine refusedWord
-put-word-requires-2 c κs = room-right _ _ (decimal (c .before .before .before .before .before .before .before .before .before .before .before .before .before .before .before .before .before .before .before .before .args .tag)) newline (room-right _ _ (field (c .before .before .before .before .before .before .before .before .before .before .before .before .before .before .before .before .before .before .before .before .args .place)) ((decimal (c .before .before .before .before .before .before .before .before .before .before .before .before .before .before .before .before .before .before .before .before .args .tag)) ++ newline) (room-right _ _ (field (c .before .before .before .before .before .before .before .before .before .before .before .before .before .before .before .before .before .before .before .before .args .n)) ((field (c .before .before .before .before .before .before .before .before .before .before .before .before .before .before .before .before .before .before .before .before .args .place)) ++ ((decimal (c .before .before .before .before .before .before .before .before .before .before .before .before .before .before .before .before .before .before .before .before .args .tag)) ++ newline)) (room-right (c .before .before .before .before .before .before .before .before .before .before .before .before .before .before .before .before .before .before .before .before .args .out .now) 0 refusedWord ((field (c .before .before .before .before .before .before .before .before .before .before .before .before .before .before .before .before .before .before .before .before .args .n)) ++ ((field (c .before .before .before .before .before .before .before .before .before .before .before .before .before .before .before .before .before .before .before .before .args .place)) ++ ((decimal (c .before .before .before .before .before .before .before .before .before .before .before .before .before .before .before .before .before .before .before .before .args .tag)) ++ newline))) (c .before .before .before .before .before .before .before .before .before .before .before .before .before .before .before .before .before .before .before .before .pre) (c .before .before .before .before .before .before .before .before .before .before .before .before .before .before .before .before .put-word .ensures)) (c .before .before .before .before .before .before .before .before .before .before .before .before .put-field .ensures)) (c .before .before .before .before .before .before .before .before .put-field2 .ensures)) (c .before .before .before .before .put-decimal .ensures)
+put-word-requires-2 c κs =
+    let s = c .before .before .before .before in
+    let t = s .before .before .before .before in
+    let u = t .before .before .before .before in
+    let v = u .before .before .before .before in
+    room-after (s .put-decimal .ensures)
+    (room-after (t .put-field2 .ensures)
+    (room-after (u .put-field .ensures) (room-after (v .put-word .ensures) (v .before .before .before .before .pre))))
 
 same-length : tie.Need-same-length
 same-length c = search needs
@@ -41,12 +56,13 @@ same-length c = search needs
 returns : tie.Need-returns
 unfolding refusedLine refusedWord
 returns c =
-    let all : Wrote (c .before .before .before .before .before .before .before .before .before .before .before .before .before .before .before .before .before .before .before .before .before .before .before .args .out .now) 0 (refusedLine (c .before .before .before .before .before .before .before .before .before .before .before .before .before .before .before .before .before .before .before .before .before .before .before .args .n) (c .before .before .before .before .before .before .before .before .before .before .before .before .before .before .before .before .before .before .before .before .before .before .before .args .place) (c .before .before .before .before .before .before .before .before .before .before .before .before .before .before .before .before .before .before .before .before .before .before .before .args .tag)) _ (c .before .before .put-word2 .last .0) =
-    wrote-both (c .before .before .before .before .before .before .before .before .before .before .before .before .before .before .before .before .before .before .before .before .before .before .before .args .out .now) 0 refusedWord ((field (c .before .before .before .before .before .before .before .before .before .before .before .before .before .before .before .before .before .before .before .before .before .before .before .args .n)) ++ ((field (c .before .before .before .before .before .before .before .before .before .before .before .before .before .before .before .before .before .before .before .before .before .before .before .args .place)) ++ ((decimal (c .before .before .before .before .before .before .before .before .before .before .before .before .before .before .before .before .before .before .before .before .before .before .before .args .tag)) ++ newline))) (c .before .before .before .before .before .before .before .before .before .before .before .before .before .before .before .before .before .before .before .before .before .before .before .pre) (c .before .before .before .before .before .before .before .before .before .before .before .before .before .before .before .before .before .before .before .put-word .ensures)
-    (wrote-both _ _ (field (c .before .before .before .before .before .before .before .before .before .before .before .before .before .before .before .before .before .before .before .before .before .before .before .args .n)) ((field (c .before .before .before .before .before .before .before .before .before .before .before .before .before .before .before .before .before .before .before .before .before .before .before .args .place)) ++ ((decimal (c .before .before .before .before .before .before .before .before .before .before .before .before .before .before .before .before .before .before .before .before .before .before .before .args .tag)) ++ newline)) (room-right (c .before .before .before .before .before .before .before .before .before .before .before .before .before .before .before .before .before .before .before .before .before .before .before .args .out .now) 0 refusedWord ((field (c .before .before .before .before .before .before .before .before .before .before .before .before .before .before .before .before .before .before .before .before .before .before .before .args .n)) ++ ((field (c .before .before .before .before .before .before .before .before .before .before .before .before .before .before .before .before .before .before .before .before .before .before .before .args .place)) ++ ((decimal (c .before .before .before .before .before .before .before .before .before .before .before .before .before .before .before .before .before .before .before .before .before .before .before .args .tag)) ++ newline))) (c .before .before .before .before .before .before .before .before .before .before .before .before .before .before .before .before .before .before .before .before .before .before .before .pre) (c .before .before .before .before .before .before .before .before .before .before .before .before .before .before .before .before .before .before .before .put-word .ensures)) (c .before .before .before .before .before .before .before .before .before .before .before .before .before .before .before .put-field .ensures)
-    (wrote-both _ _ (field (c .before .before .before .before .before .before .before .before .before .before .before .before .before .before .before .before .before .before .before .before .before .before .before .args .place)) ((decimal (c .before .before .before .before .before .before .before .before .before .before .before .before .before .before .before .before .before .before .before .before .before .before .before .args .tag)) ++ newline) (room-right _ _ (field (c .before .before .before .before .before .before .before .before .before .before .before .before .before .before .before .before .before .before .before .before .before .before .before .args .n)) ((field (c .before .before .before .before .before .before .before .before .before .before .before .before .before .before .before .before .before .before .before .before .before .before .before .args .place)) ++ ((decimal (c .before .before .before .before .before .before .before .before .before .before .before .before .before .before .before .before .before .before .before .before .before .before .before .args .tag)) ++ newline)) (room-right (c .before .before .before .before .before .before .before .before .before .before .before .before .before .before .before .before .before .before .before .before .before .before .before .args .out .now) 0 refusedWord ((field (c .before .before .before .before .before .before .before .before .before .before .before .before .before .before .before .before .before .before .before .before .before .before .before .args .n)) ++ ((field (c .before .before .before .before .before .before .before .before .before .before .before .before .before .before .before .before .before .before .before .before .before .before .before .args .place)) ++ ((decimal (c .before .before .before .before .before .before .before .before .before .before .before .before .before .before .before .before .before .before .before .before .before .before .before .args .tag)) ++ newline))) (c .before .before .before .before .before .before .before .before .before .before .before .before .before .before .before .before .before .before .before .before .before .before .before .pre) (c .before .before .before .before .before .before .before .before .before .before .before .before .before .before .before .before .before .before .before .put-word .ensures)) (c .before .before .before .before .before .before .before .before .before .before .before .before .before .before .before .put-field .ensures)) (c .before .before .before .before .before .before .before .before .before .before .before .put-field2 .ensures)
-    (wrote-both _ _ (decimal (c .before .before .before .before .before .before .before .before .before .before .before .before .before .before .before .before .before .before .before .before .before .before .before .args .tag)) newline (room-right _ _ (field (c .before .before .before .before .before .before .before .before .before .before .before .before .before .before .before .before .before .before .before .before .before .before .before .args .place)) ((decimal (c .before .before .before .before .before .before .before .before .before .before .before .before .before .before .before .before .before .before .before .before .before .before .before .args .tag)) ++ newline) (room-right _ _ (field (c .before .before .before .before .before .before .before .before .before .before .before .before .before .before .before .before .before .before .before .before .before .before .before .args .n)) ((field (c .before .before .before .before .before .before .before .before .before .before .before .before .before .before .before .before .before .before .before .before .before .before .before .args .place)) ++ ((decimal (c .before .before .before .before .before .before .before .before .before .before .before .before .before .before .before .before .before .before .before .before .before .before .before .args .tag)) ++ newline)) (room-right (c .before .before .before .before .before .before .before .before .before .before .before .before .before .before .before .before .before .before .before .before .before .before .before .args .out .now) 0 refusedWord ((field (c .before .before .before .before .before .before .before .before .before .before .before .before .before .before .before .before .before .before .before .before .before .before .before .args .n)) ++ ((field (c .before .before .before .before .before .before .before .before .before .before .before .before .before .before .before .before .before .before .before .before .before .before .before .args .place)) ++ ((decimal (c .before .before .before .before .before .before .before .before .before .before .before .before .before .before .before .before .before .before .before .before .before .before .before .args .tag)) ++ newline))) (c .before .before .before .before .before .before .before .before .before .before .before .before .before .before .before .before .before .before .before .before .before .before .before .pre) (c .before .before .before .before .before .before .before .before .before .before .before .before .before .before .before .before .before .before .before .put-word .ensures)) (c .before .before .before .before .before .before .before .before .before .before .before .before .before .before .before .put-field .ensures)) (c .before .before .before .before .before .before .before .before .before .before .before .put-field2 .ensures)) (c .before .before .before .before .before .before .before .put-decimal .ensures) (c .before .before .put-word2 .ensures)))) in
-    all .output
+    let s = c .before .before .before .before .before .before .before in
+    let t = s .before .before .before .before in
+    let u = t .before .before .before .before in
+    wrote-then (u .before .before .before .before .put-word .ensures)
+    (wrote-then (u .put-field .ensures)
+    (wrote-then (t .put-field2 .ensures)
+    (wrote-then (s .put-decimal .ensures) (c .before .before .put-word2 .ensures))))
 
 pub put-refusal-spec : {M : Type 1} → statement M
 put-refusal-spec =

@@ -1,12 +1,9 @@
 -- `listing::put_value` meets its contract.
 -- Assumes nothing.
-use Prim.Native.Nat.{_+_, _-_, _/_, _%_}
-use mathlib.Core.Path.{_≡_, ap}
 use native.Mathlib.Omega.{arith}
 use borrow.Author.Needs.{needs}
-use lib.ListN.{take, drop}
-use Rattle.spelling.specs.Spelling.{hex}
-use Rattle.listing.proofs.Puts.{puts-inside, puts-wrote, room-of, wrote-as}
+use Rattle.base.proofs.Putting.{puts-as}
+use Rattle.listing.proofs.Texts.{value-lent}
 use Rattle.listing.proofs.put_value.Statement.{statement}
 use Rattle.listing.proofs.put_value.Tie as tie
 
@@ -27,22 +24,17 @@ put-hex-requires c κs = search needs
 
 add-result : tie.Need-add-result
 add-result c =
-    let place = c .before .before .before .before .before .before .before .args .row .spot / 65536 in
-    let size = c .before .before .before .before .before .before .before .args .row .spot % 65536 in
-    let k : place + size - place ≡ size = omega arith in
-    let e = ap (λ m. hex (take m (drop place (c .before .before .before .before .before .before .before .args .packet .now)))) k in
-    omega (arith, puts-inside (c .before .before .put-hex .ensures) (room-of (c .before .before .before .before .before .before .before .args .out .now) (c .before .before .before .before .before .before .before .args .at) e (c .before .before .before .before .before .before .before .pre .1)), c .before .before .before .before .before .before .before .good)
+    let s = c .before .before .before .before .before .before .before in
+    let text = value-lent (s .args .packet .now) (s .args .row) in
+    omega (arith, puts-as text (s .pre .1) (c .before .before .put-hex .ensures) .inside, s .good)
 
 same-length : tie.Need-same-length
 same-length c = search needs
 
 returns : tie.Need-returns
 returns c =
-    let place = c .before .before .before .before .before .before .before .args .row .spot / 65536 in
-    let size = c .before .before .before .before .before .before .before .args .row .spot % 65536 in
-    let k : place + size - place ≡ size = omega arith in
-    let e = ap (λ m. hex (take m (drop place (c .before .before .before .before .before .before .before .args .packet .now)))) k in
-    wrote-as e (puts-wrote (c .before .before .put-hex .ensures) (room-of (c .before .before .before .before .before .before .before .args .out .now) (c .before .before .before .before .before .before .before .args .at) e (c .before .before .before .before .before .before .before .pre .1)))
+    let s = c .before .before .before .before .before .before .before in
+    puts-as (value-lent (s .args .packet .now) (s .args .row)) (s .pre .1) (c .before .before .put-hex .ensures)
 
 pub put-value-spec : {M : Type 1} → statement M
 put-value-spec =

@@ -27,7 +27,9 @@ wide-requires : tie.Need-wide-requires
 wide-requires c κs = search needs
 
 returns-3 : tie.Need-returns-3
-returns-3 c = let s = c .before .before .before .before .before .before .args .s .now in all-taken 1 s (c .before .before .if3 .taken) (omega arith) (c .wide .ensures .0 ∙ sym (one-taken 0 s (omega arith)))
+returns-3 c =
+    let s = c .before .before .before .before .before .before .args .s .now in
+    all-taken 1 s (c .before .before .if3 .taken) (omega arith) (c .wide .ensures .0 ∙ sym (one-taken 0 s (omega arith)))
 
 four-at-requires-2 : tie.Need-four-at-requires-2
 four-at-requires-2 c κs = search needs
@@ -42,7 +44,10 @@ add-result : tie.Need-add-result
 add-result c = search needs
 
 returns-4 : tie.Need-returns-4
-returns-4 c = let s = c .before .before .before .before .before .before .before .args .s .now in all-taken 8 s (c .before .before .if4 .taken) (omega arith) (ap₂ (λ x y. x * 0x100000000 + y) (c .before .four-at2 .ensures .0) (c .four-at3 .ensures .0) ∙ joined 4 4 0 s (omega arith))
+returns-4 c =
+    let s = c .before .before .before .before .before .before .before .args .s .now in
+    let both = ap₂ (λ x y. x * 0x100000000 + y) (c .before .four-at2 .ensures .0) (c .four-at3 .ensures .0) in
+    all-taken 8 s (c .before .before .if4 .taken) (omega arith) (both ∙ joined 4 4 0 s (omega arith))
 
 of-any-length-requires : tie.Need-of-any-length-requires
 of-any-length-requires c κs = search needs

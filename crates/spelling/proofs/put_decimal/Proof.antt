@@ -5,7 +5,7 @@ use native.Mathlib.Omega.{arith}
 use borrow.Author.Tests.{not-true, not-false}
 use borrow.Author.Needs.{needs}
 use Rattle.spelling.proofs.Putting.{decimal-put}
-use Rattle.base.specs.Putting.{no-room}
+use Rattle.base.proofs.Putting.{no-room}
 use Rattle.spelling.proofs.put_decimal.Statement.{statement}
 use Rattle.spelling.proofs.put_decimal.Tie as tie
 

@@ -10,7 +10,8 @@ use lib.ListN.{length, take, set, length-set}
 use Rattle.spelling.proofs.Putting.{hex-put}
 use Rattle.spelling.proofs.Laws.{hex-length}
 use Rattle.spelling.specs.Spelling.{hex}
-use Rattle.base.specs.Putting.{putInto, no-room, all-put, put-nothing}
+use Rattle.base.specs.Putting.{putInto}
+use Rattle.base.proofs.Putting.{no-room, all-put, put-nothing}
 use Rattle.spelling.proofs.put_hex.Statement.{statement}
 use Rattle.spelling.proofs.put_hex.Tie as tie
 

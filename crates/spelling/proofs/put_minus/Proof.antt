@@ -5,7 +5,7 @@ use borrow.Author.Tests.{not-true, not-false}
 use borrow.Author.Needs.{needs}
 use Rattle.spelling.proofs.Putting.{minus-put, minus-length}
 use Rattle.spelling.proofs.Digits.{decimal-few}
-use Rattle.base.specs.Putting.{no-room}
+use Rattle.base.proofs.Putting.{no-room}
 use Rattle.spelling.proofs.put_minus.Statement.{statement}
 use Rattle.spelling.proofs.put_minus.Tie as tie
 

@@ -1,20 +1,18 @@
 -- `spelling::put_text` meets its contract.
 -- Assumes nothing.
-use Prim.Native.Nat.{_+_, _-_, _≤_}
-use mathlib.Core.Path.{_≡_, refl, sym, _∙_}
+use Prim.Native.Nat.{_-_}
+use mathlib.Core.Path.{refl, ap, _∙_}
 use native.Mathlib.Omega.{arith}
 use borrow.Author.Tests.{not-true, not-false}
 use borrow.Author.Needs.{needs}
-use lib.Seq.{take-all}
-use lib.ListN.{length, take, getD, length-set}
-use Rattle.spelling.proofs.Putting.{text-next}
-use Rattle.base.specs.Putting.{putInto, no-room, all-put, put-nothing}
+use lib.Seq.{take-length}
+use Rattle.base.specs.Putting.{putInto}
+use Rattle.base.proofs.Putting.{no-room, all-put, Copying, copy-start, copy-next, copy-done}
 use Rattle.spelling.proofs.put_text.Statement.{statement}
 use Rattle.spelling.proofs.put_text.Tie as tie
 
 abbrev Inv-loop : tie.InvT-loop
-Inv-loop out₀ at text size room i₀ out i =
-    (out ≡ putInto out₀ at (take i text)) × (i ≤ size) × (length out ≡ length out₀) × (at + size ≤ length out₀)
+Inv-loop out₀ at text size room i₀ out i = Copying out₀ at text size out i
 
 abbrev μ-loop : tie.MeasureT-loop
 μ-loop out₀ at text size room i₀ out i = size - i
@@ -26,9 +24,7 @@ returns : tie.Need-returns Inv-loop μ-loop
 returns c = no-room _ _ _ _ refl (c .before .has-room .ensures .1 (not-true _ (c .if1 .taken)))
 
 loop-holds : tie.Need-loop-holds Inv-loop μ-loop
-loop-holds c =
-    let h = c .before .has-room .ensures .0 (not-false _ (c .if1 .left)) in
-    (sym (put-nothing _ _ (omega arith)), omega arith, refl, h)
+loop-holds c = copy-start (c .before .has-room .ensures .0 (not-false _ (c .if1 .left))) (omega arith)
 
 shared-slice-read-out : tie.Need-shared-slice-read-out Inv-loop μ-loop
 shared-slice-read-out c = search needs
@@ -46,23 +42,15 @@ loop-less : tie.Need-loop-less Inv-loop μ-loop
 loop-less c = search needs
 
 loop-again : tie.Need-loop-again Inv-loop μ-loop
-loop-again c =
-    let l = c .before .before .loop in
-    let a = c .before .before .before .before .before .before .before .args in (
-      text-next _ _ _ _ _ (c .before .loop-test .taken) (l .inv .3) (l .inv .0),
-      omega arith,
-      length-set (l .out) (a .at + l .i) (getD (a .text .now) (l .i) 0) ∙ l .inv .2,
-      l .inv .3,
-    )
+loop-again c = copy-next (c .before .before .loop .inv) _ refl (c .before .loop-test .taken)
 
 same-length : tie.Need-same-length Inv-loop μ-loop
 same-length c = search needs
 
 returns-2 : tie.Need-returns-2 Inv-loop μ-loop
 returns-2 c =
-    let l = c .before .loop in
-    let text = c .before .before .before .before .before .before .args .text .now in
-    all-put _ _ _ _ refl (l .inv .3) _ (rw (take-all (l .i) text (omega arith)) at (l .inv .0))
+    let all = c .before .loop .inv in
+    all-put _ _ _ _ refl (all .room) _ (copy-done all (c .loop-test .left) ∙ ap (putInto _ _) (take-length _))
 
 pub put-text-spec : {M : Type 1} → statement M
 put-text-spec =

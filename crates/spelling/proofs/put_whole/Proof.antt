@@ -22,10 +22,12 @@ same-length c = search needs
 
 returns : tie.Need-returns
 returns c =
-    let v = c .before .before .before .before .before .before .before .args .v in
+    let s = c .before .before .before .before .before in
+    let v = s .before .before .args .v in
     let fits : SFits w64 v = search needs in
-    let far : c .before .before .before .before .below-zero .result ≡ natAbs v = rw (toZ-ofZ fits) at (c .before .before .before .before .below-zero .ensures) in
-    rw (whole-below v (rw (toZ-ofZ fits) at (c .before .before .before .before .before .if1 .taken)), ← far) (c .before .before .put-minus .ensures)
+    let below = c .before .before .before .before .below-zero in
+    let far : below .result ≡ natAbs v = rw (toZ-ofZ fits) at (below .ensures) in
+    rw (whole-below v (rw (toZ-ofZ fits) at (s .if1 .taken)), ← far) (c .before .before .put-minus .ensures)
 
 cast-put-decimal : tie.Need-cast-put-decimal
 cast-put-decimal c =
