@@ -1,10 +1,15 @@
-//! Holds the C header and the crate to each other: constants by name and number, the answer's fields in order, and the functions.
+//! Holds the C header, the crate and the proved code to each other: constants by name and number, the answer's fields in order, and the
+//! functions with their parameters.
 
 use oysterknoll::{Knowing, Reason, LONGEST_LISTING, LONGEST_PACKET, TABLE_WORDS};
 use std::collections::BTreeMap;
 
 const HEADER: &str = include_str!("../../include/oysterknoll.h");
+const CRATE: &str = include_str!("../src/lib.rs");
 const RAW: &str = include_str!("../src/raw.rs");
+const PROVED: &str = include_str!("../../crates/oysterknoll/src/lib.rt");
+const LISTING: &str = include_str!("../../crates/listing/src/lib.rt");
+const LISTING_DEFINED: &str = include_str!("../../crates/listing/specs/Listing.antt");
 
 /// Every constant of the header, by its name after `OYK_`.
 fn header_constants() -> BTreeMap<String, u64> {
@@ -173,6 +178,45 @@ fn raw_functions() -> Vec<Function> {
     functions.collect()
 }
 
+/// The functions of the proved code as C sees them.
+fn proved_functions() -> Vec<Function> {
+    let declared = PROVED.split("pub extern \"C\" fn ").skip(1);
+    let functions = declared.map(|declaration| {
+        let (name, rest) = declaration.split_once('(').expect("parameters");
+        let (list, answer) = rest.split_once(')').expect("an end of parameters");
+        assert!(answer.starts_with(" -> Answer\n"));
+        let list = parameters(list).flat_map(|parameter| lent(&parameter));
+        (name.to_string(), list.collect())
+    });
+    functions.collect()
+}
+
+/// A parameter of the proved code as C sees it: a slice such as `packet: &[u8]` is a pointer and its length.
+fn lent(parameter: &str) -> Vec<String> {
+    let (name, kind) = parameter.split_once(": ").expect("a name and a type");
+    let slice = |start| kind.strip_prefix(start)?.strip_suffix(']');
+    let pointer = match (slice("&["), slice("&mut [")) {
+        (Some(element), _) => format!("{name}: *const {element}"),
+        (_, Some(element)) => format!("{name}: *mut {element}"),
+        _ => return vec![parameter.to_string()],
+    };
+    vec![pointer, format!("{name}_len: usize")]
+}
+
+/// The fields of a struct `Answer`, in order.
+fn answer_fields(code: &str) -> Vec<String> {
+    between(code, "pub struct Answer {", "}")
+        .lines()
+        .filter_map(|line| line.trim().strip_prefix("pub "))
+        .map(|field| field.trim_end_matches(',').to_string())
+        .collect()
+}
+
+/// The number that ends a line of the code, after `start`.
+fn number_after(start: &str, code: &str) -> u64 {
+    number(between(code, start, "\n").trim_end_matches(';'))
+}
+
 #[test]
 fn constants_agree() {
     assert_eq!(header_constants(), crate_constants());
@@ -198,17 +242,25 @@ fn answer_has_the_same_fields_in_the_same_order() {
         .filter(|field| !field.trim().is_empty())
         .map(in_rust)
         .collect();
-    let raw: Vec<String> = between(RAW, "pub struct Answer {", "}")
-        .lines()
-        .filter_map(|line| line.trim().strip_prefix("pub "))
-        .map(|field| field.trim_end_matches(',').to_string())
-        .collect();
-    assert_eq!(header, raw);
+    assert_eq!(header, answer_fields(RAW));
+    assert_eq!(header, answer_fields(PROVED));
     assert_eq!(header.len(), 7);
 }
 
 #[test]
 fn functions_agree() {
     assert_eq!(header_functions(), raw_functions());
+    assert_eq!(header_functions(), proved_functions());
     assert_eq!(header_functions().len(), 11);
+}
+
+#[test]
+fn longest_listing_is_the_proved_bound() {
+    let bound = number_after("\nlargest = ", LISTING_DEFINED);
+    assert_eq!(bound, number_after("pub const LARGEST: usize = ", LISTING));
+    assert_eq!(bound, number_after("#define OYK_LONGEST_LISTING ", HEADER));
+    assert_eq!(
+        bound,
+        number_after("pub const LONGEST_LISTING: usize = ", CRATE)
+    );
 }
