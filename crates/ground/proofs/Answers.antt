@@ -7,7 +7,7 @@ use mathlib.Core.List.{List}
 use borrow.Author.Tests.{lt-ltb, le-ltb}
 use Rattle.base.specs.Cases.{never}
 use Rattle.refusal.specs.Answer.{given}
-use Rattle.rows.specs.Kinds.{Row}
+use Rattle.rows.specs.Meaning.{Row}
 use Rattle.ground.specs.Values.{valueIn, Small}
 use Rattle.ground.specs.Ground.{heightBy, heightIn, CornerSeen, noCorner, offTheEarth, on, fullCorner, offsetCorner, otherwise, cornerIn}
 use Rattle.ground.specs.Said.{cornerSaid}

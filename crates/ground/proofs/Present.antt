@@ -4,10 +4,11 @@
 use Prim.Native.Nat.{ℕ, _+_, _-_, _*_, _^_}
 use native.Mathlib.Omega.{arith}
 use mathlib.Core.Path.{_≡_, sym, ap, _∙_}
-use mathlib.Core.Bool.{Bool, true, false, cond, _&&_, _||_}
+use mathlib.Core.Bool.{Bool, true, false, _&&_, _||_}
+use mathlib.Core.Logic.{_⊎_, inl, inr, ⊎-elim}
 use mathlib.Core.List.{List, [], _∷_}
 use lib.Dec.{ltb, eqb}
-use borrow.Author.Tests.{eqb-true, eq-eqb, ne-eqb, lt-ltb}
+use borrow.Author.Tests.{eqb-true, eq-eqb, ne-eqb}
 use Rattle.base.specs.Cases.{byBool, byEq, clash}
 use Rattle.base.specs.Every.{Each, both-left, both-right}
 use Rattle.refusal.specs.Answer.{given}
@@ -21,13 +22,13 @@ use Rattle.catalogue.specs.declared.Item.{Item}
 use Rattle.catalogue.specs.declared.Found.{Found}
 use Rattle.catalogue.specs.declared.Found.the-variants.{Known, Absent as Unlisted}
 use Rattle.catalogue.specs.declared.Shape.the-variants.{Number}
-use Rattle.rows.specs.Kinds.{Row, shapeFor, markCode}
-use Rattle.rows.specs.Taken.{spotLength, rowGood, tagGood}
+use Rattle.rows.specs.Meaning.{Row, shapeFor, markCode, kindFor, isNumber as number}
+use Rattle.rows.specs.Taken.{spotLength, rowGood, tagGood, rowSays}
 use Rattle.packet.specs.Pieces as pieces
 use Rattle.packet.specs.Judge.{Knowing}
 use Rattle.packet.specs.Verdict.{received}
 use Rattle.packet.specs.Rows.{rowsOf}
-use Rattle.laws.proofs.Structure.{passed}
+use Rattle.refusal.proofs.Answers.{passed}
 use Rattle.laws.proofs.Rows.{GoodRow, rows-good}
 use Rattle.scale.specs.Scales.{scaled, codes, half, isNumber}
 use Rattle.scale.specs.Conversions.{houseOf}
@@ -49,6 +50,10 @@ says-after : {i : Item} {t : ℕ} {rs : List Row} {v : Value} (r : Row) → (r .
 says-after r n (nothing e) = nothing (n, e)
 says-after r n (a-mark s m e k) = a-mark s (there m) e k
 says-after r n (a-reading s m e k) = a-reading s (there m) e k
+
+-- a row of either kind is a number
+a-number : (r : Row) → (r .kind ≡ 2) ⊎ (r .kind ≡ 1) → number (rowSays r) ≡ true
+a-number r k = ⊎-elim (λ e. rw e) (λ e. rw e) k
 
 -- the checksum has no scale
 scaledBy : Found → Bool
@@ -76,18 +81,18 @@ module _ (K : Knowing) (b : List ℕ) (t : ℕ) (i : Item) (knows : K t ≡ true
 
   -- a row of the tag that is not bad is a mark or a number
   module _ (r : Row) (e : r .tag ≡ t) (g : GoodRow K b r) where
-    parts : (eqb (r .kind) (cond (marked r) 2 1) && (eqb (spotLength (r .spot)) (i .width) && (eqb (r .tag) 1 || ltb (r .code) (2 ^ (8 * i .width))))) ≡ true
+    parts : (eqb (r .kind) (kindFor (Number (i .width) (isMarked (i .sign))) (r .code)) && (eqb (spotLength (r .spot)) (i .width) && (eqb (r .tag) 1 || ltb (r .code) (2 ^ (8 * i .width))))) ≡ true
     unfolding rowGood
     parts = both-right (tagGood (r .tag)) _ (rw (ap (shapeFor K) e ∙ shape-is) at g)
 
-    kind-is : r .kind ≡ cond (marked r) 2 1
-    kind-is = eqb-true _ _ (both-left (eqb (r .kind) (cond (marked r) 2 1)) _ parts)
+    kind-is : r .kind ≡ kindFor (Number (i .width) (isMarked (i .sign))) (r .code)
+    kind-is = eqb-true _ _ (both-left (eqb (r .kind) (kindFor (Number (i .width) (isMarked (i .sign))) (r .code))) _ parts)
 
     no-sum : eqb (r .tag) 1 ≡ false
     no-sum = byEq (r .tag) 1 (λ z. absurd (unscaled-sum i (rw (← z, e) s))) (λ n. ne-eqb _ _ n)
 
     fits : ltb (r .code) (2 ^ (8 * i .width)) ≡ true
-    fits = rw no-sum at (both-right (eqb (spotLength (r .spot)) (i .width)) _ (both-right (eqb (r .kind) (cond (marked r) 2 1)) _ parts))
+    fits = rw no-sum at (both-right (eqb (spotLength (r .spot)) (i .width)) _ (both-right (eqb (r .kind) (kindFor (Number (i .width) (isMarked (i .sign))) (r .code))) _ parts))
 
     mark-says : marked r ≡ true → (r .kind ≡ 2) × (valueBy r ≡ Off)
     unfolding valueBy
@@ -106,8 +111,8 @@ module _ (K : Knowing) (b : List ℕ) (t : ℕ) (i : Item) (knows : K t ≡ true
   value-says (r ∷ rs) g =
       byEq (r .tag) t
       (λ e. byBool (marked r)
-      (λ m. let y = mark-says r e (g .0) m in rw (eq-eqb _ _ e, lt-ltb (r .kind) 3 (omega (arith, y .0)), y .1) (a-mark r here e (y .0)))
-      (λ m. let y = reading-says r e (g .0) m in rw (eq-eqb _ _ e, lt-ltb (r .kind) 3 (omega (arith, y .0)), y .1) (a-reading r here e (y .0))))
+      (λ m. let y = mark-says r e (g .0) m in rw (eq-eqb _ _ e, a-number r (inl (y .0)), y .1) (a-mark r here e (y .0)))
+      (λ m. let y = reading-says r e (g .0) m in rw (eq-eqb _ _ e, a-number r (inr (y .0)), y .1) (a-reading r here e (y .0))))
       (λ n. rw (ne-eqb _ _ n) (says-after r n (value-says rs (g .1))))
 
 pub present : (K : TagSet) (p : List ℕ) (is : List pieces.Item) → Bytes p → received K p ≡ given is → (t : ℕ) (i : Item) → holds K t ≡ true → Scaled t i

@@ -13,7 +13,7 @@ use Rattle.tagset.specs.Sets.{holds}
 use Rattle.tagset.specs.declared.TagSet.{TagSet}
 use Rattle.tagset.proofs.Laws.{Included}
 use Rattle.knowing.specs.Good.{good}
-use Rattle.rows.specs.Kinds.{Row, shapeFor}
+use Rattle.rows.specs.Meaning.{Row, shapeFor}
 use Rattle.packet.specs.Pieces.{Item}
 use Rattle.packet.specs.Judge.{Knowing}
 use Rattle.packet.specs.Verdict.{received}

@@ -9,19 +9,18 @@ use lib.ListN.{length, replicate}
 use Rattle.refusal.specs.Answer.{given, refused, refusal}
 use Rattle.refusal.specs.declared.Refusal.{Refusal}
 use Rattle.tagset.specs.declared.TagSet.{TagSet}
-use Rattle.rows.specs.Kinds.{Row}
-use Rattle.packet.specs.Rows.{rowsIn, readAnswer, readTable}
+use Rattle.rows.specs.Meaning.{Row}
+use Rattle.packet.specs.Rows.{rowsIn, Filled, readAnswer, readTable}
 use Rattle.laws.proofs.Tables.{has-received, received-refused}
 use Rattle.reader.specs.Reads.{Reads, readSaid}
 use Rattle.reader.specs.declared.Reading.{Reading}
 use Rattle.reader.specs.declared.Reading.the-variants as reading
-use Rattle.reader.specs.declared.Filled.{Filled}
 use Rattle.ground.specs.Ground.{fromRows}
 
 module _ {A : Type 0} (f : List Row → A) (K : TagSet) (p t : List ℕ) where
-  pub reader-rows : (n : ℕ) → readAnswer K p t ≡ given n → fromRows f K p ≡ given (f (rowsIn 0 n (readTable K p t)))
+  pub reader-rows : (done : Filled) → readAnswer K p t ≡ given done → fromRows f K p ≡ given (f (rowsIn 0 (done .count) (readTable K p t)))
   unfolding fromRows
-  reader-rows n e = let r = has-received K p t n e in rw (r .accepted, r .rows)
+  reader-rows done e = let r = has-received K p t done e in rw (r .accepted, r .rows)
 
   pub reader-refusal : 512 ≤ length t → (n a u : ℕ) → readAnswer K p t ≡ refused n a u → fromRows f K p ≡ refused n a u
   unfolding fromRows
@@ -34,4 +33,4 @@ module _ {A : Type 0} (f : List Row → A) (K : TagSet) (p : List ℕ) (r : Read
 
   pub was-read : (x : Filled) → r ≡ reading.Rows x → given (f (rowsIn 0 (x .count) t)) ≡ fromRows f K p
   was-read x e =
-      ap (λ w. given (f (rowsIn 0 (x .count) w))) (d .table) ∙ sym (reader-rows f K p (replicate 512 0) (x .count) (sym (d .answer) ∙ ap readSaid e))
+      ap (λ w. given (f (rowsIn 0 (x .count) w))) (d .table) ∙ sym (reader-rows f K p (replicate 512 0) x (sym (d .answer) ∙ ap readSaid e))

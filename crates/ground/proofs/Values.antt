@@ -4,15 +4,16 @@ use Prim.Native.Nat.{ℕ, _+_, _-_, _<_, _≤_}
 use mathlib.Core.Path.{_≡_, refl}
 use mathlib.Core.Bool.{Bool, true, false, _&&_}
 use mathlib.Core.List.{List, [], _∷_}
-use lib.Dec.{ltb, eqb}
+use lib.Dec.{eqb}
 use lib.IntN.{ℤ, _+ℤ_}
 use mir.Syntax.{w64}
 use mir.Val.{SFits}
-use borrow.Author.Tests.{eq-eqb, ne-eqb}
 use Rattle.base.specs.Cases.{byBool}
 use Rattle.refusal.specs.Answer.{Answer, given, refused}
-use Rattle.rows.specs.Kinds.{Row}
-use Rattle.rows.specs.Taken.{rowAt}
+use Rattle.rows.specs.Meaning.{Meaning, reading, mark, text, carried, isNumber, Row}
+use Rattle.rows.specs.Taken.{rowSays, rowAt}
+use Rattle.rows.specs.declared.Part.{Part}
+use Rattle.rows.proofs.Laws.{number-reading}
 use Rattle.packet.specs.Rows.{rowsIn}
 use Rattle.laws.proofs.Tables.{rows-from, rows-none}
 use Rattle.scale.specs.Conversions.{toHouse}
@@ -21,7 +22,7 @@ use Rattle.scale.specs.declared.House.{House}
 use Rattle.scale.specs.declared.ToHouse.{ToHouse}
 use Rattle.scale.proofs.Whole.{sum-fits}
 use Rattle.scale.proofs.Given.{house-small}
-use Rattle.ground.specs.Values.{inHouse, valueBy, valueIn, Small}
+use Rattle.ground.specs.Values.{inHouse, valueSeen, valueBy, valueIn, Small}
 use Rattle.ground.specs.declared.Value.{Value}
 use Rattle.ground.specs.declared.Value.the-variants.{Absent, Off, At}
 
@@ -29,15 +30,15 @@ use Rattle.ground.specs.declared.Value.the-variants.{Absent, Off, At}
 module _ (r : Row) where
   pub a-mark : r .kind ≡ 2 → Off ≡ valueBy r
   unfolding valueBy
-  a-mark e = rw (eq-eqb _ _ e)
+  a-mark e = rw e
 
-  pub a-reading : (r .kind ≡ 2 → ⊥) → (h : ToHouse) → houseSaid h ≡ toHouse (r .tag) (r .code) → inHouse (houseSaid h) ≡ valueBy r
+  pub a-reading : isNumber (rowSays r) ≡ true → (r .kind ≡ 2 → ⊥) → (h : ToHouse) → houseSaid h ≡ toHouse (r .tag) (r .code) → inHouse (houseSaid h) ≡ valueBy r
   unfolding valueBy
-  a-reading n h e = rw (ne-eqb _ _ n, ← e)
+  a-reading n f h e = rw (number-reading (r .kind) _ _ _ n f, ← e)
 
 -- the row numbered n of count rows is the one, or the search goes on after it
 module _ (t : ℕ) (w : List ℕ) (n count : ℕ) where
-  module _ (h : n < count) (r : Row) (e : r ≡ rowAt w n) (b : Bool) (p : b ≡ (eqb (r .tag) t && ltb (r .kind) 3)) where
+  module _ (h : n < count) (r : Row) (e : r ≡ rowAt w n) (b : Bool) (p : b ≡ (eqb (r .tag) t && isNumber (rowSays r))) where
     pub this-row : b ≡ true → valueBy r ≡ valueIn t (rowsIn n (count - n) w)
     unfolding valueIn
     this-row q = rw (rows-from w n count h, ← e, ← p, q)
@@ -57,13 +58,19 @@ house-is-small t code (refused n p u) e = tt
 
 row-small : (r : Row) → Small (valueBy r)
 unfolding valueBy
-row-small r = byBool (eqb (r .kind) 2) (λ e. rw e tt) (λ e. rw e (house-is-small (r .tag) (r .code) (toHouse (r .tag) (r .code)) refl))
+row-small r = seen-small (rowSays r)
+  where
+    seen-small : (m : Meaning Part) → Small (valueSeen (r .tag) m)
+    seen-small (reading code size) = house-is-small (r .tag) code (toHouse (r .tag) code) refl
+    seen-small (mark code size) = tt
+    seen-small (text part) = tt
+    seen-small (carried part) = tt
 
 pub value-small : (t : ℕ) (rs : List Row) → Small (valueIn t rs)
 unfolding valueIn
 value-small t [] = tt
 value-small t (r ∷ rs) =
-    byBool (eqb (r .tag) t && ltb (r .kind) 3) (λ e. rw e (row-small r)) (λ e. rw e (value-small t rs))
+    byBool (eqb (r .tag) t && isNumber (rowSays r)) (λ e. rw e (row-small r)) (λ e. rw e (value-small t rs))
 
 pub both-small : {a b : ℤ} {x y : Value} → x ≡ At a → y ≡ At b → Small x → Small y → SFits w64 (a +ℤ b)
 both-small {a} {b} e f h k = sum-fits a b (rw e at h) (rw f at k)

@@ -4,12 +4,10 @@ use mathlib.Core.Bool.{cond, _&&_}
 use mathlib.Core.List.{List}
 use lib.Dec.{ltb}
 use lib.IntN.{ℤ, _+ℤ_}
-use Rattle.refusal.specs.Answer.{Answer, given, refused}
+use Rattle.refusal.specs.Answer.{Answer, map}
 use Rattle.tagset.specs.Sets.{holds}
 use Rattle.tagset.specs.declared.TagSet.{TagSet}
-use Rattle.rows.specs.Kinds.{Row}
-use Rattle.packet.specs.Pieces.{Item}
-use Rattle.packet.specs.Judge.{Knowing}
+use Rattle.rows.specs.Meaning.{Row}
 use Rattle.packet.specs.Verdict.{received}
 use Rattle.packet.specs.Rows.{rowsOf}
 use Rattle.ground.specs.Values.{valueIn}
@@ -83,12 +81,8 @@ unfoldable pub cornerIn : ℕ → List Row → CornerSeen
 cornerIn k rs = cond (ltb 0 k && ltb k 5) (otherwise (fullCorner k rs) (offsetCorner k rs)) noCorner
 
 -- what a receiver works out of the rows of a packet, or "first … the reader's refusal (never 2)"
-abbrev pub rowsGive : {A : Type 0} → Knowing → (List Row → A) → Answer (List Item) → Answer A
-rowsGive K f (given is) = given (f (rowsOf K is))
-rowsGive K f (refused n p t) = refused n p t
-
 unfoldable pub fromRows : {A : Type 0} → (List Row → A) → TagSet → List ℕ → Answer A
-fromRows f K p = rowsGive (holds K) f (received K p)
+fromRows f K p = map (λ is. f (rowsOf (holds K) is)) (received K p)
 
 abbrev pub sensorHeight : TagSet → List ℕ → Answer HeightSeen
 sensorHeight = fromRows (heightIn 75 15)

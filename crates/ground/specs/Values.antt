@@ -3,10 +3,11 @@
 use Prim.Native.Nat.{ℕ, _^_, _<_}
 use mathlib.Core.Bool.{cond, _&&_}
 use mathlib.Core.List.{List, [], _∷_}
-use lib.Dec.{ltb, eqb}
+use lib.Dec.{eqb}
 use lib.Signed.{mag}
 use Rattle.refusal.specs.Answer.{Answer, given, refused}
-use Rattle.rows.specs.Kinds.{Row}
+use Rattle.rows.specs.Meaning.{Meaning, reading, mark, text, carried, isNumber, Row}
+use Rattle.rows.specs.Taken.{rowSays}
 use Rattle.scale.specs.Conversions.{toHouse}
 use Rattle.scale.specs.declared.House.{House}
 use Rattle.ground.specs.declared.Value.{Value}
@@ -17,14 +18,20 @@ abbrev pub inHouse : Answer House → Value
 inHouse (given h) = At (h .value)
 inHouse (refused n p t) = Off
 
--- a row that is present: a mark is off the Earth, a reading is in house units
+-- what is seen in an item of a tag: a mark is off the Earth, a reading is in house units, text and carried bytes never count
+abbrev pub valueSeen : {A : Type 0} → ℕ → Meaning A → Value
+valueSeen tag (reading code size) = inHouse (toHouse tag code)
+valueSeen tag (mark code size) = Off
+valueSeen tag (text a) = Absent
+valueSeen tag (carried a) = Absent
+
 unfoldable pub valueBy : Row → Value
-valueBy r = cond (eqb (r .kind) 2) Off (inHouse (toHouse (r .tag) (r .code)))
+valueBy r = valueSeen (r .tag) (rowSays r)
 
 -- the row of a tag, among readings and marks
 unfoldable pub valueIn : ℕ → List Row → Value
 valueIn t [] = Absent
-valueIn t (r ∷ rs) = cond (eqb (r .tag) t && ltb (r .kind) 3) (valueBy r) (valueIn t rs)
+valueIn t (r ∷ rs) = cond (eqb (r .tag) t && isNumber (rowSays r)) (valueBy r) (valueIn t rs)
 
 -- a value small enough to be added to another
 abbrev pub Small : Value → Type 0

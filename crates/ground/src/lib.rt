@@ -1,10 +1,12 @@
 // Heights and corners of an accepted packet, in house units. A height keeps its kind, and no function turns one kind into the
 // other; a mark is off the Earth and never a number.
 ghost use mathlib.Core.Path.{_≡_};
-ghost use mathlib.Core.Bool.{_&&_};
+ghost use mathlib.Core.Bool.{true, _&&_};
 ghost use Prim.Native.Nat.{_<_};
-ghost use lib.Dec.{ltb, eqb};
+ghost use lib.Dec.{eqb};
 ghost use Rattle.refusal.specs.Answer.{given};
+ghost use Rattle.rows.specs.Meaning.{isNumber};
+ghost use Rattle.rows.specs.Taken.{rowSays};
 ghost use Rattle.packet.specs.Rows.{rowsIn};
 ghost use Rattle.ground.specs.Values.{valueBy, valueIn, Small};
 ghost use Rattle.ground.specs.Ground.{heightIn, pointOf, sumOf, fullCoordinate, offsetCoordinate, fullCorner, offsetCorner, cornerIn, fromRows, sensorHeight, frameCentreHeight, cornerOf};
@@ -50,9 +52,10 @@ enum Value {
 
 // What a row that is present says: a mark is no number.
 fn value_of(row: RowWords) -> Value
+    requires { ⌜ isNumber (rowSays row) ≡ true ⌝ }
     ensures { λ r. ⌜ r ≡ valueBy row ⌝ }
 {
-    if row.kind == 2 {
+    if row.kind == rows::MARK {
         return Value::Off;
     }
     match scale::to_house(row.tag, row.code) {
@@ -63,10 +66,14 @@ fn value_of(row: RowWords) -> Value
 
 // A row that counts for a tag: a reading or a mark, never a carried one.
 fn is_present(row: RowWords, tag: u64) -> bool
-    ensures { λ r. ⌜ r ≡ (eqb (row .tag) tag && ltb (row .kind) 3) ⌝ }
+    ensures { λ r. ⌜ r ≡ (eqb (row .tag) tag && isNumber (rowSays row)) ⌝ }
 {
+    let kind = row.kind;
     if row.tag == tag {
-        return row.kind < 3;
+        if kind == rows::READING {
+            return true;
+        }
+        return kind == rows::MARK;
     }
     false
 }

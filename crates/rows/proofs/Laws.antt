@@ -2,19 +2,19 @@
 -- Assumes nothing.
 use Prim.Native.Nat.{ℕ, _*_, _≤_}
 use native.Mathlib.Omega.{arith}
-use mathlib.Core.Path.{_≡_, refl, ap}
+use mathlib.Core.Path.{_≡_, refl, ap, sym, _∙_}
 use mathlib.Core.Bool.{Bool, true, cond, _&&_}
 use mathlib.Core.List.{List}
 use lib.Dec.{leb, eqb}
 use borrow.Author.Tests.{leb-true, eq-eqb, ne-eqb}
-use Rattle.base.specs.Cases.{byBool}
+use Rattle.base.specs.Cases.{byBool, byEq, clash}
 use Rattle.base.specs.Every.{both-left, both-right}
 use Rattle.refusal.proofs.Laws.{refusal-apart}
 use Rattle.catalogue.specs.Column.{shapeColumn, shapeIn}
 use Rattle.catalogue.specs.declared.Shape.{Shape}
 use Rattle.catalogue.specs.declared.Shape.the-variants.{Text, Number, Absent}
 use Rattle.catalogue.proofs.Columns.{shape-in-column}
-use Rattle.rows.specs.Meaning.{Meaning, reading, mark, text, carried, shapeFor, seenAs, markCode, kindOf, kindFor, codeOf, saidBy}
+use Rattle.rows.specs.Meaning.{reading, mark, text, carried, shapeFor, seenAs, markCode, kindOf, kindFor, codeOf, isNumber, saidBy}
 use Rattle.rows.specs.Taken.{countGood, takenSaid}
 use Rattle.rows.specs.declared.Taken.{Taken}
 use Rattle.rows.specs.declared.Taken.the-variants.{Is, Refused}
@@ -45,6 +45,19 @@ module _ {A : Type 0} (kind code size : ℕ) (a : A) where
 
   pub says-carried : (kind ≡ 1 → ⊥) → (kind ≡ 2 → ⊥) → (kind ≡ 3 → ⊥) → saidBy kind code size a ≡ carried a
   says-carried f g h = rw (ne-eqb kind 1 f, ne-eqb kind 2 g, ne-eqb kind 3 h)
+
+  -- a number that is no reading is a mark, and the other way round
+  pub number-mark : (kind ≡ 1 → ⊥) → eqb kind 2 ≡ isNumber (saidBy kind code size a)
+  number-mark f =
+      byEq kind 2 (λ e. rw e)
+      (λ g. rw (ne-eqb kind 1 f, ne-eqb kind 2 g) (byBool (eqb kind 3) (λ h. rw h) (λ h. rw h)))
+
+  pub number-reading : isNumber (saidBy kind code size a) ≡ true → (kind ≡ 2 → ⊥) → kind ≡ 1
+  number-reading n f =
+      byEq kind 1 (λ e. e)
+      (λ g. byEq kind 3
+      (λ e. clash (sym n ∙ ap isNumber (says-text g f e)))
+      (λ h. clash (sym n ∙ ap isNumber (says-carried g f h))))
 
 -- the kind does not look at the length, nor at what text is; and what is seen is what kind and code say of it
 module _ {A : Type 0} (size : ℕ) (a : A) where

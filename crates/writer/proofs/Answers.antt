@@ -6,35 +6,32 @@ use mathlib.Core.List.{List}
 use lib.ListN.{length}
 use borrow.Author.Tests.{lt-ltb, le-ltb}
 use Rattle.base.specs.Cases.{never}
-use Rattle.refusal.specs.Answer.{Answer, given, refused}
+use Rattle.refusal.specs.Answer.{given, refused, map}
+use Rattle.refusal.proofs.Answers.{map-given, map-refused}
 use Rattle.refusal.proofs.Laws.{refusal-apart}
 use Rattle.base.specs.Putting.{putInto, put-front}
 use Rattle.tagset.specs.Sets.{holds}
 use Rattle.tagset.specs.declared.TagSet.{TagSet}
 use Rattle.rows.proofs.Laws.{count-good}
-use Rattle.packet.specs.Pieces.{Piece}
 use Rattle.packet.specs.Encode.{encode}
-use Rattle.outgoing.specs.Outgoing.{outgoing, packedOf, sizeOf}
+use Rattle.outgoing.specs.Outgoing.{outgoing, packedOf}
 use Rattle.outgoing.specs.declared.Packed.{Packed}
 use Rattle.outgoing.proofs.Given.{Outgoes, outgoing-then}
 use Rattle.writer.specs.Putting.{tablePieces, Ready}
-use Rattle.writer.specs.Writes.{Writes, roomy, written, bytesCount, outputBy, writeAnswer, writeOutput, writeSaid}
+use Rattle.writer.specs.Writes.{Writes, written, writtenBy, outputBy, writeAnswer, writeOutput, writeSaid}
 use Rattle.writer.specs.declared.Writing.{Writing}
 use Rattle.writer.specs.declared.Writing.the-variants.{Packet, Refused}
 
 module _ (K : TagSet) (count : ℕ) (words b o : List ℕ) where
   by-refusal : (n p t : ℕ) → written K count words b (length o) ≡ refused n p t → (r : Writing) → writeSaid r ≡ refused n p t → Writes K count words b o r o
   unfolding writeAnswer writeOutput
-  by-refusal n p t e r s = record { answer = s ∙ sym (ap bytesCount e); output = sym (ap (outputBy o) e) }
+  by-refusal n p t e r s = record { answer = s ∙ sym (ap (map writtenBy) e); output = sym (ap (outputBy o) e) }
 
   -- the rows are refused
-  not-sized : (n p t : ℕ) (x : Answer (List Piece)) → sizeOf x ≡ refused n p t → x ≡ refused n p t
-  not-sized n p t (given cs) e = never (cc)
-  not-sized n p t (refused m q u) e = cc
-
-  pub rows-refused : (n p t : ℕ) → sizeOf (outgoing K count words b) ≡ refused n p t → (r : Writing) → writeSaid r ≡ refused n p t → Writes K count words b o r o
+  pub rows-refused : (n p t : ℕ) → map packedOf (outgoing K count words b) ≡ refused n p t → (r : Writing) → writeSaid r ≡ refused n p t
+      → Writes K count words b o r o
   unfolding written
-  rows-refused n p t e r s = by-refusal n p t (ap (roomy (length o)) (not-sized n p t (outgoing K count words b) e)) r s
+  rows-refused n p t e r s = by-refusal n p t (rw (map-refused packedOf (outgoing K count words b) n p t e)) r s
 
   -- they make a packet
   pub record Fit (p : Packed) : Type 0 where
@@ -42,15 +39,11 @@ module _ (K : TagSet) (count : ℕ) (words b o : List ℕ) where
     pub sizes : p ≡ packedOf (tablePieces (holds K) b count words)
     pub rows : Outgoes K count words b
 
-  fit-from : (p : Packed) (x : Answer (List Piece)) → outgoing K count words b ≡ x → sizeOf x ≡ given p → Fit p
-  fit-from p (refused n q t) f e = never (cc)
-  fit-from p (given cs) f e =
-      let g = outgoing-then K count words b cs f in
-      let q : p ≡ packedOf cs = cc in
-      record { sent = f ∙ ap given (sym (g .1)); sizes = q ∙ ap packedOf (sym (g .1)); rows = g .0 }
-
-  pub fit : (p : Packed) → sizeOf (outgoing K count words b) ≡ given p → Fit p
-  fit p e = fit-from p (outgoing K count words b) refl e
+  pub fit : (p : Packed) → map packedOf (outgoing K count words b) ≡ given p → Fit p
+  fit p e =
+      let f = map-given packedOf (outgoing K count words b) e in
+      let g = outgoing-then K count words b (f .0) (f .1) in
+      record { sent = f .1 ∙ ap given (sym (g .1)); sizes = sym (f .2) ∙ ap packedOf (sym (g .1)); rows = g .0 }
 
   module _ (p : Packed) (f : Fit p) where
     size-is : p .size ≡ length (encode (tablePieces (holds K) b count words))
@@ -81,14 +74,12 @@ module _ (K : TagSet) (count : ℕ) (words b o : List ℕ) where
       unfolding writeAnswer writeOutput
       packet-written o′ e =
           record {
-            answer = ap given size-is ∙ sym (ap bytesCount is-written);
+            answer = ap (λ n. given (record { size = n })) size-is ∙ sym (ap (map writtenBy) is-written);
             output = e ∙ (put-front o (encode (tablePieces (holds K) b count words)) (rw (← size-is) h) ∙ sym (ap (outputBy o) is-written));
           }
 
 pub write-apart : (a b : Writing) → writeSaid a ≡ writeSaid b → a ≡ b
-write-apart (Packet x) (Packet y) e =
-    let c : x .size ≡ y .size = cc in
-    λ i. Packet (record { size = c i })
+write-apart (Packet x) (Packet y) e = cc
 write-apart (Packet x) (Refused s) e = never (cc)
 write-apart (Refused r) (Packet y) e = never (cc)
 write-apart (Refused r) (Refused s) e = ap Refused (refusal-apart r s e)

@@ -8,7 +8,7 @@ use mathlib.Core.List.{List, [], _∷_}
 use lib.ListN.{length}
 use Rattle.base.specs.Every.{Each}
 use Rattle.base.specs.Putting.{putInto}
-use Rattle.rows.specs.Kinds.{Row, shapeFor}
+use Rattle.rows.specs.Meaning.{Row, shapeFor}
 use Rattle.catalogue.specs.declared.Shape.{Shape}
 use Rattle.rows.specs.Taken.{rowAt, rowGood}
 use Rattle.packet.specs.Judge.{Knowing}

@@ -14,7 +14,7 @@ use Rattle.number.specs.Stored.{bytesOf}
 use Rattle.number.proofs.Laws.{length-bytesOf}
 use Rattle.catalogue.specs.declared.Shape.{Shape}
 use Rattle.catalogue.specs.declared.Shape.the-variants.{Text, Number, Absent}
-use Rattle.rows.specs.Kinds.{Row, kindIn}
+use Rattle.rows.specs.Meaning.{Row, kindFor}
 use Rattle.rows.specs.Taken.{spotPlace, spotLength, tagGood, partGood, contentGood, rowGood}
 use Rattle.packet.specs.Rows.{valueIn}
 
@@ -48,7 +48,7 @@ number-value s w m b r e g = rw e (ap (λ n. bytesOf n (r .code)) (number-size w
 
 pub content-good : (s : Shape) (room : ℕ) (r : Row) → rowGood s room r ≡ true → contentGood s room r ≡ true
 unfolding rowGood
-content-good s room r g = both-right (eqb (r .kind) (kindIn s (r .code))) _ (both-right (tagGood (r .tag)) _ g)
+content-good s room r g = both-right (eqb (r .kind) (kindFor s (r .code))) _ (both-right (tagGood (r .tag)) _ g)
 
 pub row-size : (s : Shape) (b : List ℕ) (r : Row) → rowGood s (length b) r ≡ true → length (valueIn s b r) ≡ spotLength (r .spot)
 row-size s b r g = value-size s b r (content-good s (length b) r g)

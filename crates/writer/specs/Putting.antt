@@ -5,7 +5,7 @@ use mathlib.Core.List.{List}
 use lib.ListN.{length}
 use Rattle.base.specs.Every.{Each}
 use Rattle.catalogue.specs.declared.Shape.{Shape}
-use Rattle.rows.specs.Kinds.{Row}
+use Rattle.rows.specs.Meaning.{Row}
 use Rattle.packet.specs.Pieces.{Piece}
 use Rattle.packet.specs.Judge.{Knowing}
 use Rattle.packet.specs.Encode.{itemBytes, itemsBytes, encode}

@@ -5,40 +5,38 @@ use mathlib.Core.Bool.{cond}
 use mathlib.Core.List.{List, _++_}
 use lib.ListN.{length, drop}
 use lib.Dec.{ltb}
-use Rattle.refusal.specs.Answer.{Answer, given, refused, refusal}
+use Rattle.refusal.specs.Answer.{Answer, given, refused, refusal, map, then, orElse}
 use Rattle.tagset.specs.declared.TagSet.{TagSet}
 use Rattle.packet.specs.Pieces.{Piece}
 use Rattle.packet.specs.Encode.{encode}
 use Rattle.outgoing.specs.Outgoing.{outgoing}
+use Rattle.writer.specs.declared.Written.{Written}
 use Rattle.writer.specs.declared.Writing.{Writing}
 use Rattle.writer.specs.declared.Writing.the-variants.{Packet, Refused}
 
 -- 18, after all others: "output too short"
-abbrev pub roomy : ℕ → Answer (List Piece) → Answer (List Piece)
-roomy room (given cs) = cond (ltb room (length (encode cs))) (refused 18 0 0) (given cs)
-roomy room (refused n p t) = refused n p t
+abbrev pub roomy : ℕ → List Piece → Answer (List Piece)
+roomy room cs = cond (ltb room (length (encode cs))) (refused 18 0 0) (given cs)
 
 unfoldable pub written : TagSet → ℕ → List ℕ → List ℕ → ℕ → Answer (List Piece)
-written K count words b room = roomy room (outgoing K count words b)
+written K count words b room = then (outgoing K count words b) (roomy room)
 
 -- the number of bytes
-abbrev pub bytesCount : Answer (List Piece) → Answer ℕ
-bytesCount (given cs) = given (length (encode cs))
-bytesCount (refused n p t) = refused n p t
+abbrev pub writtenBy : List Piece → Written
+writtenBy cs = record { size = length (encode cs) }
 
 -- "Bytes after the packet in the output stay."
 abbrev pub outputBy : List ℕ → Answer (List Piece) → List ℕ
-outputBy o (given cs) = encode cs ++ drop (length (encode cs)) o
-outputBy o (refused n p t) = o
+outputBy o = orElse o (λ cs. encode cs ++ drop (length (encode cs)) o)
 
-unfoldable pub writeAnswer : TagSet → ℕ → List ℕ → List ℕ → List ℕ → Answer ℕ
-writeAnswer K count words b o = bytesCount (written K count words b (length o))
+unfoldable pub writeAnswer : TagSet → ℕ → List ℕ → List ℕ → List ℕ → Answer Written
+writeAnswer K count words b o = map writtenBy (written K count words b (length o))
 
 unfoldable pub writeOutput : TagSet → ℕ → List ℕ → List ℕ → List ℕ → List ℕ
 writeOutput K count words b o = outputBy o (written K count words b (length o))
 
-abbrev pub writeSaid : Writing → Answer ℕ
-writeSaid (Packet w) = given (w .size)
+abbrev pub writeSaid : Writing → Answer Written
+writeSaid (Packet w) = given w
 writeSaid (Refused r) = refusal r
 
 pub record Writes (K : TagSet) (count : ℕ) (words b o : List ℕ) (r : Writing) (o′ : List ℕ) : Type 0 where

@@ -4,6 +4,8 @@ use Prim.Native.Nat.{_-_, _≤_}
 use mathlib.Core.Path.{_≡_, sym, _∙_}
 use native.Mathlib.Omega.{arith}
 use borrow.Author.Needs.{needs}
+use lib.Dec.{eqb}
+use Rattle.base.specs.Every.{both-right}
 use Rattle.packet.specs.Rows.{rowsIn}
 use Rattle.ground.specs.Values.{valueIn}
 use Rattle.ground.proofs.Values.{this-row, next-row, no-row}
@@ -26,7 +28,7 @@ is-present-requires : tie.Need-is-present-requires Inv-loop μ-loop
 is-present-requires c κs = search needs
 
 value-of-requires : tie.Need-value-of-requires Inv-loop μ-loop
-value-of-requires c κs = search needs
+value-of-requires c κs = both-right (eqb (c .before .before .row-at .result .tag) _) _ (sym (c .before .is-present .ensures) ∙ c .if1 .taken)
 
 returns : tie.Need-returns Inv-loop μ-loop
 returns c = c .value-of .ensures ∙ (this-row _ _ _ _ (c .before .before .before .before .loop-test .taken) _ (c .before .before .before .row-at .ensures) _ (c .before .before .is-present .ensures) (c .before .if1 .taken) ∙ c .before .before .before .before .before .loop .inv .1)
