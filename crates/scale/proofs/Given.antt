@@ -81,10 +81,10 @@ module _ (t : ℕ) (none : (i : Item) → Scaled t i → ⊥) where
   code-19 v = ap (converted 21 t (λ i. not (isOutside i v)) (λ i. codeGiven i v)) (unscaled (scaledItem t) refl)
 
 -- and nothing else: what is given tells that the item has a scale, that the test passed, and all that is in the record
-pub record Gave {A : Type 0} (t : ℕ) (i : Item) (passed : Type 0) (a b : A) : Type 0 where
+pub record Gave {A : Type 0} (t : ℕ) (i : Item) (passed : Type 0) (whole a : A) : Type 0 where
   pub scale : Scaled t i
   pub fit : passed
-  pub made : b ≡ a
+  pub made : a ≡ whole
 
 gave : {A : Type 0} (n t : ℕ) (test : Item → Bool) (give : Item → A) (i : Item) (a : A) → itemOf t ≡ Known i
     → converted n t test give (scaledItem t) ≡ given a → Gave t i (test i ≡ true) (give i) a

@@ -2,11 +2,13 @@
 -- Assumes nothing.
 use borrow.Author.Needs.{needs}
 use mathlib.Core.Path.{_≡_, sym, _∙_}
+use lib.Signed.{ltZ}
 use mir.Syntax.{w64}
-use mir.Val.{SFits}
+use mir.Val.{SFits, toZ, ofZ}
 use mir.Facts.{toZ-ofZ}
 use Rattle.catalogue.specs.Items.{itemOf}
 use Rattle.catalogue.specs.declared.Found.the-variants.{Known}
+use Rattle.scale.specs.Scales.{scaled}
 use Rattle.scale.proofs.scaled_item.Statement.{statement}
 use Rattle.scale.proofs.scaled_item.Tie as tie
 
@@ -19,22 +21,21 @@ enum-known-item c = search needs
 found : (c : tie.After-known-told) → itemOf (c .before .before .before .before .args .tag) ≡ Known (c .before .item .given .0 .0)
 found c = sym (c .before .before .before .item-of .ensures) ∙ c .before .item .given .1
 
-returns : tie.Need-returns
-returns c =
-    let i = c .before .before .before .before .item .given .0 .0 in
+tested : (c : tie.After-known-told) → let i = c .before .item .given .0 .0 in scaled i ≡ ltZ (toZ w64 (ofZ w64 (i .low))) (toZ w64 (ofZ w64 (i .high)))
+tested c =
+    let i = c .before .item .given .0 .0 in
     let low : SFits w64 (i .low) = search needs in
     let high : SFits w64 (i .high) = search needs in
-    rw (found (c .before .before .before), rw (toZ-ofZ low, toZ-ofZ high) at (c .if1 .taken))
+    rw (toZ-ofZ low, toZ-ofZ high)
+
+returns : tie.Need-returns
+returns c = rw (found (c .before .before .before), tested (c .before .before .before) ∙ c .if1 .taken)
 
 enum-told : tie.Need-enum-told
 enum-told c = search needs
 
 returns-2 : tie.Need-returns-2
-returns-2 c =
-    let i = c .before .before .before .before .item .given .0 .0 in
-    let low : SFits w64 (i .low) = search needs in
-    let high : SFits w64 (i .high) = search needs in
-    rw (found (c .before .before .before), rw (toZ-ofZ low, toZ-ofZ high) at (c .if1 .left))
+returns-2 c = rw (found (c .before .before .before), tested (c .before .before .before) ∙ c .if1 .left)
 
 returns-3 : tie.Need-returns-3
 returns-3 c = rw (← c .before .before .item-of .ensures, c .enum-told .given .1)
