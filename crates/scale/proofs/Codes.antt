@@ -114,4 +114,4 @@ module _ (i : Item) (r : Rule i) where
 pub code-nearest : (t : ℕ) (v : ℤ) (i : Item) (c : Code) → itemOf t ≡ Known i → toCode t v ≡ given c → NearestCode i v (c .code)
 code-nearest t v i c e p =
     let g = code-given t v i c e p in
-    rw (g .made) (nearest-code i (scaled-rule (g .scale)) v (g .inside) (code-is-number (g .scale) v (g .inside)))
+    rw (g .made) (nearest-code i (scaled-rule (g .scale)) v (g .fit) (code-is-number (g .scale) v (g .fit)))

@@ -2,22 +2,21 @@
 -- and 19, 20 and 21 come exactly where document 01 says. A mark is never the answer.
 -- Assumes nothing.
 use Prim.Native.Nat.{ℕ, _^_, _<_}
-use native.Mathlib.Omega.{arith}
 use mathlib.Core.Path.{_≡_, refl, ap}
-use mathlib.Core.Bool.{true, false, not}
+use mathlib.Core.Bool.{Bool, true, false, not}
 use lib.Dec.{ltb}
 use lib.IntN.{ℤ}
 use lib.Signed.{mag, ltZ}
 use Rattle.base.specs.Cases.{byBool, never}
 use Rattle.base.specs.Every.{both-true}
-use borrow.Author.Tests.{lt-ltb}
+use borrow.Author.Tests.{lt-ltb, not-true}
 use Rattle.refusal.specs.Answer.{Answer, given, refused}
 use Rattle.catalogue.specs.Items.{itemOf}
 use Rattle.catalogue.specs.declared.Item.{Item}
 use Rattle.catalogue.specs.declared.Found.{Found}
 use Rattle.catalogue.specs.declared.Found.the-variants.{Known, Absent}
 use Rattle.scale.specs.Scales.{scaled, codes, isNumber, isOutside}
-use Rattle.scale.specs.Conversions.{houseOf, houseGiven, houseBy, toHouse, codeOf, codeGiven, codeBy, toCode}
+use Rattle.scale.specs.Conversions.{ifScaled, scaledItem, converted, houseOf, houseGiven, toHouse, codeOf, codeGiven, toCode}
 use Rattle.scale.specs.declared.House.{House}
 use Rattle.scale.specs.declared.Code.{Code}
 use Rattle.scale.specs.Rule.{Rule}
@@ -57,43 +56,59 @@ module _ {t : ℕ} {i : Item} (s : Scaled t i) where
       let c = code-coded i (scaled-rule s) v e in
       both-true (ltb (codeOf i v) (codes i)) _ (lt-ltb _ _ (c .fits)) (ap not (c .no-mark))
 
--- where there is no item, or one without scale
-by-item : (P : Found → Type 0) (f : Found) → ((i : Item) → f ≡ Known i → P (Known i)) → P Absent → P f
-by-item P (Known i) g h = g i refl
-by-item P Absent g h = h
+-- the lookup finds the items that have a scale, and no others
+pub scaled-known : (t : ℕ) (i : Item) → scaledItem t ≡ Known i → Scaled t i
+scaled-known t i = go (itemOf t) refl
+  where
+    go : (f : Found) → itemOf t ≡ f → ifScaled f ≡ Known i → Scaled t i
+    go (Known j) k e =
+        byBool (scaled j)
+        (λ s. let f : Known j ≡ Known i = rw s at e in let same : j ≡ i = cc in record { known = rw (← same) k; has-scale = rw (← same) s })
+        (λ s. let f : Absent ≡ Known i = rw s at e in never (cc))
+    go Absent k e = never (cc)
 
 module _ (t : ℕ) (none : (i : Item) → Scaled t i → ⊥) where
-  unscaled : (i : Item) → itemOf t ≡ Known i → scaled i ≡ false
-  unscaled i e = byBool (scaled i) (λ s. absurd (none i (record { known = e; has-scale = s }))) (λ s. s)
+  unscaled : (f : Found) → scaledItem t ≡ f → f ≡ Absent
+  unscaled (Known i) e = absurd (none i (scaled-known t i e))
+  unscaled Absent e = refl
 
   pub house-19 : (code : ℕ) → toHouse t code ≡ refused 19 0 t
   unfolding toHouse
-  house-19 code = by-item (λ f. houseBy t code f ≡ refused 19 0 t) (itemOf t) (λ i e. rw (unscaled i e)) refl
+  house-19 code = ap (converted 20 t (λ i. isNumber i code) (λ i. houseGiven i code)) (unscaled (scaledItem t) refl)
 
   pub code-19 : (v : ℤ) → toCode t v ≡ refused 19 0 t
   unfolding toCode
-  code-19 v = by-item (λ f. codeBy t v f ≡ refused 19 0 t) (itemOf t) (λ i e. rw (unscaled i e)) refl
+  code-19 v = ap (converted 21 t (λ i. not (isOutside i v)) (λ i. codeGiven i v)) (unscaled (scaledItem t) refl)
 
--- and nothing else: an answer tells which of the cases it is
-pub record HouseGiven (t code : ℕ) (i : Item) (h : House) : Type 0 where
+-- and nothing else: what is given tells that the item has a scale, that the test passed, and all that is in the record
+pub record Gave {A : Type 0} (t : ℕ) (i : Item) (passed : Type 0) (whole a : A) : Type 0 where
   pub scale : Scaled t i
-  pub number : isNumber i code ≡ true
-  pub made : h ≡ houseGiven i code
+  pub fit : passed
+  pub made : a ≡ whole
 
-pub house-given : (t code : ℕ) (i : Item) (h : House) → itemOf t ≡ Known i → toHouse t code ≡ given h → HouseGiven t code i h
-unfolding toHouse
-house-given t code i h e p =
+gave : {A : Type 0} (n t : ℕ) (test : Item → Bool) (give : Item → A) (i : Item) (a : A) → itemOf t ≡ Known i
+    → converted n t test give (scaledItem t) ≡ given a → Gave t i (test i ≡ true) (give i) a
+gave n t test give i a e p =
     byBool (scaled i)
-    (λ s. byBool (isNumber i code)
-    (λ n. record { scale = record { known = e; has-scale = s }; number = n; made = got (rw (e, s, n) at p) })
-    (λ n. not-given (rw (e, s, n) at p)))
+    (λ s. byBool (test i)
+    (λ f. let g : given (give i) ≡ given a = rw (e, s, f) at p in record { scale = record { known = e; has-scale = s }; fit = f; made = cc })
+    (λ f. not-given (rw (e, s, f) at p)))
     (λ s. not-given (rw (e, s) at p))
   where
-    got : given (houseGiven i code) ≡ given h → h ≡ houseGiven i code
-    got p = cc
+    not-given : {n p q : ℕ} {C : Type 0} → refused n p q ≡ given a → C
+    not-given p = never (cc)
 
-    not-given : {n p q : ℕ} {C : Type 0} → refused n p q ≡ given h → C
-    not-given p = let z : _≡_ {A = ℕ} 0 1 = cc in absurd (omega arith)
+pub house-given : (t code : ℕ) (i : Item) (h : House) → itemOf t ≡ Known i → toHouse t code ≡ given h
+    → Gave t i (isNumber i code ≡ true) (houseGiven i code) h
+unfolding toHouse
+house-given t code = gave 20 t (λ i. isNumber i code) (λ i. houseGiven i code)
+
+pub code-given : (t : ℕ) (v : ℤ) (i : Item) (c : Code) → itemOf t ≡ Known i → toCode t v ≡ given c
+    → Gave t i (isOutside i v ≡ false) (codeGiven i v) c
+unfolding toCode
+code-given t v i c e p =
+    let g = gave 21 t (λ i. not (isOutside i v)) (λ i. codeGiven i v) i c e p in
+    record { scale = g .scale; fit = not-true _ (g .fit); made = g .made }
 
 -- a value in house units leaves room for a sum
 pub house-small : (t code : ℕ) (h : House) → toHouse t code ≡ given h → mag (h .value) < 2 ^ 62
@@ -104,35 +119,17 @@ house-small t code h p = go (itemOf t) refl
     go (Known i) e =
         let g = house-given t code i h e p in
         let r = scaled-rule (g .scale) in
-        let o = house-inside i r code (g .number) in
-        rw (g .made) (inside-small (i .low) (i .high) (houseOf i code) (r .low-small) (r .high-small) (neither-left (ltZ (houseOf i code) (i .low)) _ o) (neither-right (ltZ (houseOf i code) (i .low)) _ o))
+        let o = house-inside i r code (g .fit) in
+        rw (g .made)
+        (inside-small (i .low) (i .high) (houseOf i code) (r .low-small) (r .high-small)
+        (neither-left (ltZ (houseOf i code) (i .low)) _ o) (neither-right (ltZ (houseOf i code) (i .low)) _ o))
     go Absent e = let f : refused 19 0 t ≡ given h = rw e at p in never (cc)
-
-pub record CodeGiven (t : ℕ) (v : ℤ) (i : Item) (c : Code) : Type 0 where
-  pub scale : Scaled t i
-  pub inside : isOutside i v ≡ false
-  pub made : c ≡ codeGiven i v
-
-pub code-given : (t : ℕ) (v : ℤ) (i : Item) (c : Code) → itemOf t ≡ Known i → toCode t v ≡ given c → CodeGiven t v i c
-unfolding toCode
-code-given t v i c e p =
-    byBool (scaled i)
-    (λ s. byBool (isOutside i v)
-    (λ n. not-given (rw (e, s, n) at p))
-    (λ n. record { scale = record { known = e; has-scale = s }; inside = n; made = got (rw (e, s, n) at p) }))
-    (λ s. not-given (rw (e, s) at p))
-  where
-    got : given (codeGiven i v) ≡ given c → c ≡ codeGiven i v
-    got p = cc
-
-    not-given : {n p q : ℕ} {C : Type 0} → refused n p q ≡ given c → C
-    not-given p = let z : _≡_ {A = ℕ} 0 1 = cc in absurd (omega arith)
 
 -- what a conversion to a code answers is never a mark, and fits
 pub answer-is-number : (t : ℕ) (v : ℤ) (i : Item) (c : Code) → itemOf t ≡ Known i → toCode t v ≡ given c → isNumber i (c .code) ≡ true
 answer-is-number t v i c e p =
     let g = code-given t v i c e p in
-    rw (g .made) (code-is-number (g .scale) v (g .inside))
+    rw (g .made) (code-is-number (g .scale) v (g .fit))
 
 -- an answer that gives what is so
 abbrev pub Gives : {A : Type 0} → Answer A → (A → Type 0) → Type 0

@@ -6,8 +6,8 @@ use native.Mathlib.Nat.{mul-zero, mul-left-comm, mul-le-mul-right, div-one}
 use mathlib.Core.Path.{_≡_, refl, sym, ap, ap₂, _∙_}
 use mathlib.Core.Bool.{Bool, true, false, not, _&&_, _||_}
 use lib.Dec.{ltb, leb, eqb}
-use lib.IntN.{ℤ, pos, natAbs, _+ℤ_, _-ℤ_, +ℤ-idr}
-use borrow.Author.Tests.{ltb-true, lt-ltb, le-ltb}
+use lib.IntN.{ℤ, pos, natAbs, _-ℤ_, +ℤ-idr}
+use borrow.Author.Tests.{ltb-true, lt-ltb}
 use lib.Signed.{mag, ltZ}
 use mir.Syntax.{w64}
 use mir.Val.{SFits}
@@ -16,8 +16,7 @@ use Rattle.base.specs.Every.{both-left}
 use Rattle.catalogue.specs.Shapes.{isMarked}
 use Rattle.catalogue.specs.declared.Item.{Item}
 use Rattle.scale.specs.Nearest.{nearest}
-use Rattle.scale.specs.Scales.{signed, codes, half, origin, reach, steps, isNumber, codeBelow, valueFar}
-use Rattle.scale.specs.Conversions.{houseOf, codeOf}
+use Rattle.scale.specs.Scales.{signed, codes, half, origin, reach, steps, isNumber, isOutside, codeBelow, codeFar, valueFar}
 use Rattle.scale.specs.Rule.{shared, depth, under, Rule, Scales, Counted}
 use Rattle.scale.specs.declared.Scale.{Scale}
 use Rattle.scale.proofs.Nearest.{nearest-cancel, nearest-grows}
@@ -87,11 +86,11 @@ module _ (i : Item) (r : Rule i) where
   far-below v p q =
       omega (arith, far-sum (i .low) v (origin i) q (ltZ-turn v (origin i) p), natAbs-turn v (origin i), natAbs-turn (i .low) (origin i))
 
-  pub above-product : (far : ℕ) → far ≤ reach i → far * (steps i / shared i) < 2 ^ 63
-  above-product far h = omega (arith, mul-le-mul-right (steps i / shared i) h, r .high-fits)
-
-  pub below-product : (far : ℕ) → far ≤ depth i → far * (steps i / shared i) < 2 ^ 63
-  below-product far h = omega (arith, mul-le-mul-right (steps i / shared i) h, r .deep-small)
+  pub value-product : (v : ℤ) → isOutside i v ≡ false → valueFar i v * (steps i / shared i) < 2 ^ 63
+  value-product v e =
+      byBool (ltZ v (origin i))
+      (λ b. omega (arith, mul-le-mul-right (steps i / shared i) (far-below v b (neither-left (ltZ v (i .low)) _ e)), r .deep-small))
+      (λ b. omega (arith, mul-le-mul-right (steps i / shared i) (far-above v b (neither-right (ltZ v (i .low)) _ e)), r .high-fits))
 
   pub below-codes : (far : ℕ) → far ≤ depth i → nearest (far * steps i) (reach i) ≤ under i
   below-codes far h = omega (arith, nearest-grows (far * steps i) (depth i * steps i) (reach i) (r .some) (mul-le-mul-right (steps i) h), r .lowest-under)
@@ -145,7 +144,8 @@ module _ (i : Item) (r : Rule i) where
         count = c .count ∙ (ap (λ x. x - 1) halved ∙ (sym (steps-signed e) ∙ rw one (sym (div-one (steps i)))));
       }
 
-  pub unsigned-scales : (s : Scale) → signed i ≡ false → s .origin ≡ i .low → s .signed ≡ false → s .codes ≡ codes i → s .reach ≡ natAbs (i .high -ℤ i .low) / 5 → s .steps ≡ (codes i - 1) / 5 → Scales i s
+  pub unsigned-scales : (s : Scale) → signed i ≡ false → s .origin ≡ i .low → s .signed ≡ false → s .codes ≡ codes i
+      → s .reach ≡ natAbs (i .high -ℤ i .low) / 5 → s .steps ≡ (codes i - 1) / 5 → Scales i s
   unfolding reach
   unsigned-scales s e o b k u n =
       let five : shared i ≡ 5 = shared-unsigned e in
@@ -160,37 +160,28 @@ module _ (i : Item) (r : Rule i) where
   pub number-fits : (code : ℕ) → isNumber i code ≡ true → code < codes i
   number-fits code e = ltb-true code (codes i) (both-left (ltb code (codes i)) _ e)
 
-  -- what the code works out is what the definition says
-  module _ (s : Scale) (k : Scales i s) (code : ℕ) where
-    pub below-same : s .signed && leb (s .codes / 2) code ≡ codeBelow i code
-    below-same = rw (k .two-sided, k .all-codes, halved)
+  pub far-fits : (code : ℕ) → isNumber i code ≡ true → codeFar i code ≤ codes i
+  far-fits code n = byBool (codeBelow i code) (λ e. rw e (omega arith)) (λ e. rw e (omega (arith, number-fits code n)))
 
-    pub house-below : codeBelow i code ≡ true → origin i -ℤ pos (nearest ((s .codes - code) * s .reach) (s .steps)) ≡ houseOf i code
-    unfolding houseOf
-    house-below e = rw (e, k .all-codes, k .units, k .count, units-reduced (codes i - code))
+  -- with the scale as the code has it: the tests and the fractions are the definition's, and the products fit
+  module _ {s : Scale} (k : Scales i s) where
+    pub below-same : (code : ℕ) → s .signed && leb (s .codes / 2) code ≡ codeBelow i code
+    below-same code = rw (k .two-sided, k .all-codes, halved)
 
-    pub house-above : codeBelow i code ≡ false → origin i +ℤ pos (nearest (code * s .reach) (s .steps)) ≡ houseOf i code
-    unfolding houseOf
-    house-above e = rw (e, k .units, k .count, units-reduced code)
+    pub units-same : (far : ℕ) → nearest (far * s .reach) (s .steps) ≡ nearest (far * reach i) (steps i)
+    units-same far = rw (k .units, k .count) (units-reduced far)
 
-    pub units-fit : (far : ℕ) → far ≤ codes i → nearest (far * s .reach) (s .steps) < 2 ^ 62
-    units-fit far h = rw (k .units, k .count, units-reduced far) (units-few far h)
+    pub units-round : (far : ℕ) → far ≤ codes i → (0 < s .steps) × (far * s .reach < 2 ^ 63)
+    units-round far h = rw (k .units, k .count) (some-steps-reduced, house-product far h)
+
+    pub codes-same : (far : ℕ) → nearest (far * s .steps) (s .reach) ≡ nearest (far * steps i) (reach i)
+    codes-same far = rw (k .units, k .count) (codes-reduced far)
+
+    pub codes-round : (v : ℤ) → isOutside i v ≡ false → (0 < s .reach) × (valueFar i v * s .steps < 2 ^ 63)
+    codes-round v e = rw (k .units, k .count) (some-reach-reduced, value-product v e)
 
   pub marked-number : (code : ℕ) → code < codes i → isMarked (i .sign) ≡ true → not (eqb code (half i)) ≡ isNumber i code
   marked-number code h e = rw (lt-ltb code (codes i) h, e)
 
   pub unmarked-number : (code : ℕ) → code < codes i → isMarked (i .sign) ≡ false → true ≡ isNumber i code
   unmarked-number code h e = rw (lt-ltb code (codes i) h, e)
-
-  module _ (v : ℤ) where
-    pub code-below : ltZ v (origin i) ≡ true → 0 < nearest (valueFar i v * steps i) (reach i) → codes i - nearest (valueFar i v * steps i) (reach i) ≡ codeOf i v
-    unfolding codeOf
-    code-below e h = rw (e, lt-ltb 0 (nearest (valueFar i v * steps i) (reach i)) h)
-
-    pub code-none : ltZ v (origin i) ≡ true → nearest (valueFar i v * steps i) (reach i) ≤ 0 → nearest (valueFar i v * steps i) (reach i) ≡ codeOf i v
-    unfolding codeOf
-    code-none e h = rw (e, le-ltb 0 (nearest (valueFar i v * steps i) (reach i)) h)
-
-    pub code-above : ltZ v (origin i) ≡ false → nearest (valueFar i v * steps i) (reach i) ≡ codeOf i v
-    unfolding codeOf
-    code-above e = rw e

@@ -4,11 +4,11 @@ use Prim.Native.Nat.{ℕ, zero, suc, _+_, _-_, _*_, _<_, _≤_}
 use native.Mathlib.Omega.{arith}
 use native.Mathlib.Nat.{mul-le-mul-right}
 use mathlib.Core.Path.{_≡_, refl, sym, ap, ap₂, _∙_}
-use mathlib.Core.Bool.{Bool, true, false, not, _&&_, _||_}
+use mathlib.Core.Bool.{Bool, true, false, not, cond, _&&_, _||_}
 use lib.Dec.{ltb, eqb}
 use lib.IntN.{ℤ, pos, negℤ, _+ℤ_, _-ℤ_, +ℤ-comm, negℤ-negℤ}
 use lib.Signed.{ltZ}
-use borrow.Author.Tests.{leb-true, leb-false, eqb-false, not-true, lt-ltb, le-leb, lt-leb, ne-eqb}
+use borrow.Author.Tests.{leb-true, leb-false, eqb-false, not-true, lt-ltb, le-ltb, le-leb, lt-leb, ne-eqb}
 use Rattle.base.specs.Cases.{byBool, clash}
 use Rattle.base.specs.Every.{both-left, both-right}
 use Rattle.catalogue.specs.Rows.{isSigned}
@@ -16,17 +16,18 @@ use Rattle.catalogue.specs.Shapes.{isMarked}
 use Rattle.catalogue.specs.declared.Sign.{Sign}
 use Rattle.catalogue.specs.declared.Sign.the-variants.{Unsigned, Signed, Marked}
 use Rattle.catalogue.specs.declared.Item.{Item}
-use Rattle.scale.specs.Nearest.{nearest}
 use Rattle.scale.specs.Scales.{signed, codes, half, origin, reach, steps, isMark, isNumber, isOutside, codeBelow, codeFar, valueBelow, valueFar, side}
-use Rattle.scale.specs.Conversions.{houseOf, codeAt, codeOf}
+use Rattle.scale.specs.Conversions.{unitsAway, houseOf, codesAway, codeAt, codeOf}
 use Rattle.scale.specs.Rule.{depth, under, Rule}
 use Rattle.scale.proofs.Nearest.{nearest-grows, nearest-top}
 use Rattle.scale.proofs.Whole.{up, turn, through, natAbs-turn, to-origin}
 use Rattle.scale.proofs.Sides.{pos-minus, not-less}
-use Rattle.scale.proofs.Items.{neither-left, neither-right, some-steps, steps-signed, steps-unsigned, number-fits, far-above, far-below, below-codes, under-half}
+use Rattle.scale.proofs.Items.{neither-left, neither-right, some-steps, steps-signed, steps-unsigned, number-fits}
+use Rattle.scale.proofs.Items.{far-above, far-below, below-codes, under-half}
 
 -- a value so far from the origin, between the ends
-between : (low high o v : ℤ) (d r m : ℕ) (b : Bool) → o -ℤ low ≡ pos d → high -ℤ o ≡ pos r → v -ℤ o ≡ side b m → (b ≡ true → m ≤ d) → (b ≡ false → m ≤ r) → ltZ v low || ltZ high v ≡ false
+between : (low high o v : ℤ) (d r m : ℕ) (b : Bool) → o -ℤ low ≡ pos d → high -ℤ o ≡ pos r → v -ℤ o ≡ side b m
+    → (b ≡ true → m ≤ d) → (b ≡ false → m ≤ r) → ltZ v low || ltZ high v ≡ false
 between low high o v d r m true e f g down high-ok =
     rw (
       not-less low v (d - m) (sym (through v o low) ∙ (ap₂ (λ x y. x +ℤ y) g e ∙ (+ℤ-comm (negℤ (pos m)) (pos d) ∙ pos-minus m d (down refl)))),
@@ -43,6 +44,15 @@ marked-signed : (s : Sign) → isMarked s ≡ true → isSigned s ≡ true
 marked-signed Unsigned e = clash (sym e)
 marked-signed Signed e = refl
 marked-signed Marked e = refl
+
+-- a code at some distance is turned where it is below, and at none it is that of the origin
+pub code-some : (i : Item) (below : Bool) (far : ℕ) → 0 < far → cond below (codes i - far) far ≡ codeAt i below far
+code-some i true far h = rw (lt-ltb 0 far h)
+code-some i false far h = refl
+
+pub code-none : (i : Item) (below : Bool) (far : ℕ) → far ≤ 0 → far ≡ codeAt i below far
+code-none i true far h = rw (le-ltb 0 far h)
+code-none i false far h = refl
 
 module _ (i : Item) (r : Rule i) where
   steps-codes : steps i < codes i
@@ -103,14 +113,19 @@ module _ (i : Item) (r : Rule i) where
   coded-at true (suc far) down high = rw (lt-ltb 0 (suc far) (omega arith)) (coded-below (suc far) (omega arith) (down refl))
 
   -- the code of a value inside the range
-  pub code-coded : (v : ℤ) → isOutside i v ≡ false → Coded (valueBelow i v) (nearest (valueFar i v * steps i) (reach i)) (codeOf i v)
-  unfolding codeOf
-  code-coded v e =
-      let p = neither-left (ltZ v (i .low)) _ e in
-      let q = neither-right (ltZ v (i .low)) _ e in
-      coded-at (valueBelow i v) (nearest (valueFar i v * steps i) (reach i))
-      (λ b. below-codes i r (valueFar i v) (far-below i r v b p))
-      (λ b. nearest-top (valueFar i v) (reach i) (steps i) (r .some) (far-above i r v b q))
+  module _ (v : ℤ) (e : isOutside i v ≡ false) where
+    low-codes : valueBelow i v ≡ true → codesAway i v ≤ under i
+    low-codes b = below-codes i r (valueFar i v) (far-below i r v b (neither-left (ltZ v (i .low)) _ e))
+
+    high-codes : valueBelow i v ≡ false → codesAway i v ≤ steps i
+    high-codes b = nearest-top (valueFar i v) (reach i) (steps i) (r .some) (far-above i r v b (neither-right (ltZ v (i .low)) _ e))
+
+    pub code-coded : Coded (valueBelow i v) (codesAway i v) (codeOf i v)
+    unfolding codeOf
+    code-coded = coded-at (valueBelow i v) (codesAway i v) low-codes high-codes
+
+    pub few-codes : codesAway i v ≤ codes i
+    few-codes = byBool (valueBelow i v) (λ b. omega (arith, low-codes b, under-half i r, r .halves)) (λ b. omega (arith, high-codes b, steps-codes))
 
   -- how far a code that is a number may be from the origin
   pub far-down : (code : ℕ) → isNumber i code ≡ true → codeBelow i code ≡ true → codeFar i code ≤ under i
@@ -120,7 +135,8 @@ module _ (i : Item) (r : Rule i) where
       let n : not (isMark i code) ≡ true = both-right (ltb code (codes i)) _ e in
       rw (b, s)
       (byBool (isMarked (i .sign))
-      (λ m. rw m (let o : (code ≡ half i → ⊥) = eqb-false code (half i) (not-true (eqb code (half i)) (rw m at n)) in omega (arith, r .halves, steps-signed i r s)))
+      (λ m. let o : (code ≡ half i → ⊥) = eqb-false code (half i) (not-true (eqb code (half i)) (rw m at n)) in
+      rw m (omega (arith, r .halves, steps-signed i r s)))
       (λ m. rw m (omega (arith, r .halves))))
 
   pub far-up : (code : ℕ) → isNumber i code ≡ true → codeBelow i code ≡ false → codeFar i code ≤ steps i
@@ -135,9 +151,10 @@ module _ (i : Item) (r : Rule i) where
   unfolding houseOf reach
   house-inside code e =
       let o = origin i in
-      between (i .low) (i .high) o (houseOf i code) (depth i) (reach i) (nearest (codeFar i code * reach i) (steps i)) (codeBelow i code)
+      between (i .low) (i .high) o (houseOf i code) (depth i) (reach i) (unitsAway i code) (codeBelow i code)
       (up (i .low) o (r .low-below) ∙ ap pos (natAbs-turn o (i .low)))
       (up o (i .high) (r .high-above))
       (to-origin o _)
-      (λ b. omega (arith, nearest-grows (codeFar i code * reach i) (under i * reach i) (steps i) (some-steps i r) (mul-le-mul-right (reach i) (far-down code e b)), r .under-inside))
+      (λ b. let most = mul-le-mul-right (reach i) (far-down code e b) in
+      omega (arith, nearest-grows (codeFar i code * reach i) (under i * reach i) (steps i) (some-steps i r) most, r .under-inside))
       (λ b. nearest-top (codeFar i code) (steps i) (reach i) (some-steps i r) (far-up code e b))

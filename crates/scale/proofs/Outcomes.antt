@@ -1,8 +1,7 @@
 -- What an answer says tells any two answers apart, so each public function's contract determines its answer.
 -- Assumes nothing.
-use Prim.Native.Nat.{ℕ}
-use native.Mathlib.Omega.{arith}
 use mathlib.Core.Path.{_≡_, sym, ap, _∙_}
+use Rattle.base.specs.Cases.{never}
 use Rattle.base.specs.Determined.{Answered}
 use Rattle.refusal.proofs.Laws.{refusal-apart}
 use Rattle.scale.specs.Said.{houseSaid, codeSaid}
@@ -17,14 +16,14 @@ use Rattle.scale.proofs.to_code.Reads as to-code-reads
 
 pub house-apart : (a b : ToHouse) → houseSaid a ≡ houseSaid b → a ≡ b
 house-apart (house.Is x) (house.Is y) e = ap house.Is (let g : x ≡ y = cc in g)
-house-apart (house.Is x) (house.Refused y) e = let z : _≡_ {A = ℕ} 0 1 = cc in absurd (omega arith)
-house-apart (house.Refused x) (house.Is y) e = let z : _≡_ {A = ℕ} 0 1 = cc in absurd (omega arith)
+house-apart (house.Is x) (house.Refused y) e = never (cc)
+house-apart (house.Refused x) (house.Is y) e = never (cc)
 house-apart (house.Refused x) (house.Refused y) e = ap house.Refused (refusal-apart x y e)
 
 pub code-apart : (a b : ToCode) → codeSaid a ≡ codeSaid b → a ≡ b
 code-apart (code.Is x) (code.Is y) e = ap code.Is (let g : x ≡ y = cc in g)
-code-apart (code.Is x) (code.Refused y) e = let z : _≡_ {A = ℕ} 0 1 = cc in absurd (omega arith)
-code-apart (code.Refused x) (code.Is y) e = let z : _≡_ {A = ℕ} 0 1 = cc in absurd (omega arith)
+code-apart (code.Is x) (code.Refused y) e = never (cc)
+code-apart (code.Refused x) (code.Is y) e = never (cc)
 code-apart (code.Refused x) (code.Refused y) e = ap code.Refused (refusal-apart x y e)
 
 pub to-house-determined : Answered 0 to-house-kinds.ps to-house-kinds.r to-house-reads.Post

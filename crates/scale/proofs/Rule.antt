@@ -2,14 +2,14 @@
 -- Assumes nothing.
 use Prim.Native.Nat.{ℕ, _+_, _*_, _/_, _%_, _^_, _<_}
 use mathlib.Core.Path.{_≡_, refl, sym, _∙_}
-use mathlib.Core.Bool.{Bool, true, false, not, _||_}
+use mathlib.Core.Bool.{Bool, true, not, _||_}
 use mathlib.Core.List.{List, [], _∷_}
 use native.Mathlib.Omega.{arith}
 use lib.ListN.{getD}
 use lib.Dec.{ltb, leb, eqb}
 use lib.Signed.{mag, ltZ}
 use borrow.Author.Tests.{ltb-true, leb-true, eqb-true, not-true}
-use Rattle.base.specs.Cases.{byLt, clash, unless}
+use Rattle.base.specs.Cases.{byLt, never, unless}
 use Rattle.base.specs.Every.{all, all-at, allBelow, all-below}
 use Rattle.catalogue.specs.Items.{groups, member, itemIn, itemOf}
 use Rattle.catalogue.specs.declared.Item.{Item}
@@ -19,6 +19,18 @@ use Rattle.catalogue.proofs.Laws.{item-beyond}
 use Rattle.scale.specs.Nearest.{nearest}
 use Rattle.scale.specs.Scales.{scaled, codes, half, origin, reach, steps}
 use Rattle.scale.specs.Rule.{shared, depth, lowest, under, Rule}
+
+-- a test that the scaled items pass, of all tags, holds of each
+abbrev pub ofScaled : (Item → Bool) → Found → Bool
+ofScaled test (Known i) = not (scaled i) || test i
+ofScaled test Absent = true
+
+pub of-scaled : (test : Item → Bool) → allBelow (λ t. ofScaled test (itemOf t)) 128 ≡ true
+    → (t : ℕ) (i : Item) → itemOf t ≡ Known i → scaled i ≡ true → test i ≡ true
+of-scaled test pass t i e s =
+    byLt t 128
+    (λ h. unless (scaled i) _ (rw e at (all-below (λ t. ofScaled test (itemOf t)) 128 pass t h)) s)
+    (λ h. let z : Known i ≡ Absent = sym e ∙ item-beyond t h in never (cc))
 
 tests : Item → List Bool
 tests i =
@@ -43,11 +55,10 @@ tests i =
 passes : Bool → Bool
 passes b = b
 
-ruled : Found → Bool
-ruled (Known i) = not (scaled i) || all passes (tests i)
-ruled Absent = true
+ruled : Item → Bool
+ruled i = all passes (tests i)
 
-all-ruled : allBelow (λ t. ruled (itemOf t)) 128 ≡ true
+all-ruled : allBelow (λ t. ofScaled ruled (itemOf t)) 128 ≡ true
 unfolding groups member itemIn itemOf ruled tests passes codes half origin reach steps nearest
 all-ruled = refl
 
@@ -76,7 +87,4 @@ keeps i e =
 
 pub rule : (t : ℕ) (i : Item) → itemOf t ≡ Known i → scaled i ≡ true → Rule i
 unfolding ruled
-rule t i e s =
-    byLt t 128
-    (λ h. keeps i (unless (scaled i) _ (rw e at (all-below (λ t. ruled (itemOf t)) 128 all-ruled t h)) s))
-    (λ h. let z : Known i ≡ Absent = sym e ∙ item-beyond t h in clash (let b : true ≡ false = cc in b))
+rule t i e s = keeps i (of-scaled ruled all-ruled t i e s)

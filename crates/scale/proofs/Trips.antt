@@ -5,25 +5,25 @@ use Prim.Native.Nat.{ℕ, zero, suc, _+_, _-_, _*_, _<_, _≤_}
 use native.Mathlib.Omega.{arith}
 use native.Mathlib.Nat.{zero-mul, mul-add, mul-sub}
 use mathlib.Core.Path.{_≡_, refl, sym, ap, ap₂, _∙_}
-use mathlib.Core.Bool.{Bool, true, false, not, cond, _&&_, _||_}
+use mathlib.Core.Bool.{Bool, true, false, not, cond, _&&_}
 use mathlib.Core.List.{List, [], _∷_}
 use lib.Dec.{ltb, eqb}
 use lib.IntN.{ℤ, natAbs, _+ℤ_, _-ℤ_}
 use borrow.Author.Tests.{lt-ltb, eq-eqb, not-true}
-use Rattle.base.specs.Cases.{byBool, byLt, clash, unless}
-use Rattle.base.specs.Every.{allBelow, all-below}
+use Rattle.base.specs.Cases.{byBool, byLt, clash}
+use Rattle.base.specs.Every.{allBelow}
 use Rattle.refusal.specs.Answer.{given}
 use Rattle.catalogue.specs.Items.{groups, member, itemIn, itemOf}
 use Rattle.catalogue.specs.declared.Item.{Item}
 use Rattle.catalogue.specs.declared.Found.{Found}
 use Rattle.catalogue.specs.declared.Found.the-variants.{Known, Absent}
-use Rattle.catalogue.proofs.Laws.{item-beyond}
 use Rattle.scale.specs.Nearest.{nearest}
 use Rattle.scale.specs.Scales.{scaled, codes, half, origin, reach, steps, isNumber, isOutside, codeBelow, codeFar, valueBelow, valueFar, side}
-use Rattle.scale.specs.Conversions.{houseOf, toHouse, codeAt, codeOf, toCode}
+use Rattle.scale.specs.Conversions.{houseOf, toHouse, codesAway, codeAt, codeOf, toCode}
 use Rattle.scale.specs.Rule.{Rule}
 use Rattle.scale.specs.declared.House.{House}
 use Rattle.scale.specs.declared.Code.{Code}
+use Rattle.scale.proofs.Rule.{ofScaled, of-scaled}
 use Rattle.scale.proofs.Nearest.{gap, nearest-none, nearest-back, there-and-back, Within}
 use Rattle.scale.proofs.Whole.{sided, from-origin, to-origin, side-below, natAbs-side}
 use Rattle.scale.proofs.Sides.{one-side, side-drop, natAbs-from}
@@ -37,24 +37,28 @@ module _ (i : Item) (r : Rule i) where
   none-back m q k some z = rw (z, zero-mul k) (nearest-none q some)
 
   -- the value that the code of a value gives
-  house-back : (v : ℤ) → isOutside i v ≡ false → houseOf i (codeOf i v) ≡ origin i +ℤ side (valueBelow i v) (nearest (nearest (valueFar i v * steps i) (reach i) * reach i) (steps i))
-  unfolding houseOf
+  backUnits : ℤ → ℕ
+  backUnits v = nearest (codesAway i v * reach i) (steps i)
+
+  house-back : (v : ℤ) → isOutside i v ≡ false → houseOf i (codeOf i v) ≡ origin i +ℤ side (valueBelow i v) (backUnits v)
+  unfolding houseOf backUnits
   house-back v e =
       let c = code-coded i r v e in
-      let m = nearest (valueFar i v * steps i) (reach i) in
+      let m = codesAway i v in
       ap (λ x. origin i +ℤ x)
       (ap₂ (λ x y. side x (nearest (y * reach i) (steps i))) (c .side-of) (c .far-of)
       ∙ side-drop (valueBelow i v) m (nearest (m * reach i) (steps i)) (none-back m (steps i) (reach i) (some-steps i r)))
 
-  back-gap : (v : ℤ) → isOutside i v ≡ false → natAbs (houseOf i (codeOf i v) -ℤ v) ≡ gap (nearest (nearest (valueFar i v * steps i) (reach i) * reach i) (steps i)) (valueFar i v)
+  back-gap : (v : ℤ) → isOutside i v ≡ false → natAbs (houseOf i (codeOf i v) -ℤ v) ≡ gap (backUnits v) (valueFar i v)
   back-gap v e =
       natAbs-from (origin i) (houseOf i (codeOf i v)) v
       ∙ (ap₂ (λ x y. natAbs (x -ℤ y)) (ap (λ x. x -ℤ origin i) (house-back v e) ∙ to-origin (origin i) _) (sided (origin i) v)
       ∙ one-side (valueBelow i v) _ _)
 
   within : (v : ℤ) → isOutside i v ≡ false → 2 * (steps i * natAbs (houseOf i (codeOf i v) -ℤ v)) ≤ reach i + steps i
+  unfolding backUnits
   within v e =
-      rw (back-gap v e) (spread (valueFar i v) (nearest (nearest (valueFar i v * steps i) (reach i) * reach i) (steps i)) (there-and-back (valueFar i v) (steps i) (reach i) (some-steps i r) (r .some)))
+      rw (back-gap v e) (spread (valueFar i v) (backUnits v) (there-and-back (valueFar i v) (steps i) (reach i) (some-steps i r) (r .some)))
     where
       spread : (x y : ℕ) → Within x y (steps i) (reach i) → 2 * (steps i * gap y x) ≤ reach i + steps i
       spread x y w =
@@ -62,13 +66,15 @@ module _ (i : Item) (r : Rule i) where
           rw (mul-add d (y - x) (x - y), mul-sub d y x, mul-sub d x y) (omega (arith, w .over, w .under))
 
   value-back : (v : ℤ) → isOutside i v ≡ false → reach i < steps i → houseOf i (codeOf i v) ≡ v
+  unfolding backUnits
   value-back v e fine =
       house-back v e
       ∙ (ap (λ k. origin i +ℤ side (valueBelow i v) k) (nearest-back (valueFar i v) (reach i) (steps i) (r .some) fine)
       ∙ (ap (λ x. origin i +ℤ x) (sym (sided (origin i) v)) ∙ from-origin (origin i) v))
 
   -- the code that the value of a code gives
-  code-at-back : (code : ℕ) → isNumber i code ≡ true → (m : ℕ) → (codeBelow i code ≡ true → 0 < m) → codeAt i (codeBelow i code && ltb 0 m) (codeFar i code) ≡ code
+  code-at-back : (code : ℕ) → isNumber i code ≡ true → (m : ℕ) → (codeBelow i code ≡ true → 0 < m)
+      → codeAt i (codeBelow i code && ltb 0 m) (codeFar i code) ≡ code
   code-at-back code n m some =
       byBool (codeBelow i code)
       (λ b. rw (b, lt-ltb 0 m (some b), lt-ltb 0 (codes i - code) (omega (arith, number-fits i r code n))) (omega (arith, number-fits i r code n)))
@@ -92,15 +98,15 @@ pub there-and-back-within : (t : ℕ) (v : ℤ) (i : Item) (c : Code) (h : House
 there-and-back-within t v i c h e p q =
     let g = code-given t v i c e p in
     let k = house-given t (c .code) i h e q in
-    rw (k .made, g .made) (within i (scaled-rule (g .scale)) v (g .inside))
+    rw (k .made, g .made) (within i (scaled-rule (g .scale)) v (g .fit))
 
 -- a step is smaller than a house unit
 pub value-code-value : (t : ℕ) (v : ℤ) (i : Item) (c : Code) → itemOf t ≡ Known i → reach i < steps i → toCode t v ≡ given c
     → Gives (toHouse t (c .code)) (λ h. h .value ≡ v)
 value-code-value t v i c e fine p =
     let g = code-given t v i c e p in
-    rw (g .made, every-code-converts (g .scale) (codeOf i v) (code-is-number (g .scale) v (g .inside)))
-    (value-back i (scaled-rule (g .scale)) v (g .inside) fine)
+    rw (g .made, every-code-converts (g .scale) (codeOf i v) (code-is-number (g .scale) v (g .fit)))
+    (value-back i (scaled-rule (g .scale)) v (g .fit) fine)
 
 -- a step exceeds a house unit
 pub code-value-code : (t code : ℕ) (i : Item) (h : House) → itemOf t ≡ Known i → steps i < reach i → toHouse t code ≡ given h
@@ -108,7 +114,7 @@ pub code-value-code : (t code : ℕ) (i : Item) (h : House) → itemOf t ≡ Kno
 code-value-code t code i h e coarse p =
     let g = house-given t code i h e p in
     let r = scaled-rule (g .scale) in
-    rw (g .made, every-value-converts (g .scale) (houseOf i code) (house-inside i r code (g .number))) (code-back i r code (g .number) coarse)
+    rw (g .made, every-value-converts (g .scale) (houseOf i code) (house-inside i r code (g .fit))) (code-back i r code (g .fit) coarse)
 
 -- which items fall where
 pub isCoarse : Item → Bool
@@ -139,17 +145,13 @@ unfolding groups member itemIn itemOf onto tagsFrom isFine codes half origin rea
 fine-tags = refl
 
 -- and there is no third kind
-evenStep : Found → Bool
-evenStep (Known i) = not (scaled i) || not (eqb (steps i) (reach i))
-evenStep Absent = true
+uneven : Item → Bool
+uneven i = not (eqb (steps i) (reach i))
 
-all-uneven : allBelow (λ t. evenStep (itemOf t)) 128 ≡ true
-unfolding groups member itemIn itemOf evenStep codes half origin reach steps
+all-uneven : allBelow (λ t. ofScaled uneven (itemOf t)) 128 ≡ true
+unfolding groups member itemIn itemOf uneven codes half origin reach steps
 all-uneven = refl
 
 pub no-even-step : (t : ℕ) (i : Item) → Scaled t i → steps i ≡ reach i → ⊥
-unfolding evenStep
-no-even-step t i s e =
-    byLt t 128
-    (λ h. clash (sym (eq-eqb (steps i) (reach i) e) ∙ not-true _ (unless (scaled i) _ (rw (s .known) at (all-below (λ t. evenStep (itemOf t)) 128 all-uneven t h)) (s .has-scale))))
-    (λ h. let z : Known i ≡ Absent = sym (s .known) ∙ item-beyond t h in clash (let b : true ≡ false = cc in b))
+unfolding uneven
+no-even-step t i s e = clash (sym (eq-eqb (steps i) (reach i) e) ∙ not-true _ (of-scaled uneven all-uneven t i (s .known) (s .has-scale)))

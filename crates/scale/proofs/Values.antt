@@ -10,9 +10,8 @@ use Rattle.refusal.specs.Answer.{given}
 use Rattle.catalogue.specs.Items.{itemOf}
 use Rattle.catalogue.specs.declared.Item.{Item}
 use Rattle.catalogue.specs.declared.Found.the-variants.{Known}
-use Rattle.scale.specs.Nearest.{nearest}
 use Rattle.scale.specs.Scales.{origin, reach, steps, codeBelow, codeFar, side}
-use Rattle.scale.specs.Conversions.{houseOf, toHouse}
+use Rattle.scale.specs.Conversions.{unitsAway, houseOf, toHouse}
 use Rattle.scale.specs.Exact.{miss}
 use Rattle.scale.specs.Rule.{Rule}
 use Rattle.scale.specs.declared.House.{House}
@@ -21,7 +20,8 @@ use Rattle.scale.proofs.Sides.{side-times, near-side, within-half}
 use Rattle.scale.proofs.Given.{house-given, scaled-rule}
 
 -- what a value so far from the origin misses
-pub miss-is : (i : Item) (code : ℕ) (v : ℤ) (b : Bool) (k : ℕ) → v -ℤ origin i ≡ side b k → miss i code v ≡ natAbs (side b (k * steps i) -ℤ side (codeBelow i code) (codeFar i code * reach i))
+pub miss-is : (i : Item) (code : ℕ) (v : ℤ) (b : Bool) (k : ℕ) → v -ℤ origin i ≡ side b k
+    → miss i code v ≡ natAbs (side b (k * steps i) -ℤ side (codeBelow i code) (codeFar i code * reach i))
 unfolding miss
 miss-is i code v b k e =
     ap₂ (λ x y. natAbs (x -ℤ y)) (ap (λ x. x *ℤ pos (steps i)) e ∙ side-times b k (steps i)) (side-times (codeBelow i code) (codeFar i code) (reach i))
@@ -36,7 +36,9 @@ unfolding houseOf
 nearest-value i r code = record { within = near; only = alone; no-tie = untied }
   where
     near : 2 * miss i code (houseOf i code) < steps i
-    near = rw (miss-is i code (houseOf i code) (codeBelow i code) (nearest (codeFar i code * reach i) (steps i)) (to-origin (origin i) _)) (within-half (codeBelow i code) (codeFar i code * reach i) (steps i) (r .odd))
+    near =
+        rw (miss-is i code (houseOf i code) (codeBelow i code) (unitsAway i code) (to-origin (origin i) _))
+        (within-half (codeBelow i code) (codeFar i code * reach i) (steps i) (r .odd))
 
     alone : (w : ℤ) → 2 * miss i code w ≤ steps i → w ≡ houseOf i code
     alone w h =

@@ -1,6 +1,6 @@
 -- Document 01: a code in house units and a value's code, or refusal 19 (no scale), 20 (a mark or too wide) or 21 (outside the range), with the tag as given.
 use Prim.Native.Nat.{ℕ, _-_, _*_}
-use mathlib.Core.Bool.{Bool, cond, _&&_}
+use mathlib.Core.Bool.{Bool, not, cond, _&&_}
 use lib.Dec.{ltb}
 use lib.IntN.{ℤ, _+ℤ_}
 use Rattle.refusal.specs.Answer.{Answer, given, refused}
@@ -13,36 +13,45 @@ use Rattle.scale.specs.Scales.{scaled, codes, origin, reach, steps, isNu
 use Rattle.scale.specs.declared.House.{House}
 use Rattle.scale.specs.declared.Code.{Code}
 
--- "To house units: nearest whole number"
+-- the item of a tag, if it has a scale
+abbrev pub ifScaled : Found → Found
+ifScaled (Known i) = cond (scaled i) (Known i) Absent
+ifScaled Absent = Absent
+
+abbrev pub scaledItem : ℕ → Found
+scaledItem tag = ifScaled (itemOf tag)
+
+-- what an item with a scale gives where the test passes, else the refusal numbered n; without a scale refusal 19
+abbrev pub converted : {A : Type 0} → ℕ → ℕ → (Item → Bool) → (Item → A) → Found → Answer A
+converted n tag test give (Known i) = cond (test i) (given (give i)) (refused n 0 tag)
+converted n tag test give Absent = refused 19 0 tag
+
+-- "To house units: nearest whole number": so many units away from the origin
+abbrev pub unitsAway : Item → ℕ → ℕ
+unitsAway i code = nearest (codeFar i code * reach i) (steps i)
+
 unfoldable pub houseOf : Item → ℕ → ℤ
-houseOf i code = origin i +ℤ side (codeBelow i code) (nearest (codeFar i code * reach i) (steps i))
+houseOf i code = origin i +ℤ side (codeBelow i code) (unitsAway i code)
 
 abbrev pub houseGiven : Item → ℕ → House
 houseGiven i code = record { value = houseOf i code }
 
-abbrev pub houseBy : ℕ → ℕ → Found → Answer House
-houseBy tag code (Known i) =
-    cond (scaled i) (cond (isNumber i code) (given (houseGiven i code)) (refused 20 0 tag)) (refused 19 0 tag)
-houseBy tag code Absent = refused 19 0 tag
-
 unfoldable pub toHouse : ℕ → ℕ → Answer House
-toHouse tag code = houseBy tag code (itemOf tag)
+toHouse tag code = converted 20 tag (λ i. isNumber i code) (λ i. houseGiven i code) (scaledItem tag)
 
 -- "To a code: nearest code; a tie goes away from the low end for unsigned items and away from zero for signed ones."
--- The code so far from the origin, in two's complement where it is below
+abbrev pub codesAway : Item → ℤ → ℕ
+codesAway i value = nearest (valueFar i value * steps i) (reach i)
+
+-- the code so far from the origin, in two's complement where it is below
 abbrev pub codeAt : Item → Bool → ℕ → ℕ
 codeAt i below far = cond (below && ltb 0 far) (codes i - far) far
 
 unfoldable pub codeOf : Item → ℤ → ℕ
-codeOf i value = codeAt i (valueBelow i value) (nearest (valueFar i value * steps i) (reach i))
+codeOf i value = codeAt i (valueBelow i value) (codesAway i value)
 
 abbrev pub codeGiven : Item → ℤ → Code
 codeGiven i value = record { code = codeOf i value }
 
-abbrev pub codeBy : ℕ → ℤ → Found → Answer Code
-codeBy tag value (Known i) =
-    cond (scaled i) (cond (isOutside i value) (refused 21 0 tag) (given (codeGiven i value))) (refused 19 0 tag)
-codeBy tag value Absent = refused 19 0 tag
-
 unfoldable pub toCode : ℕ → ℤ → Answer Code
-toCode tag value = codeBy tag value (itemOf tag)
+toCode tag value = converted 21 tag (λ i. not (isOutside i value)) (λ i. codeGiven i value) (scaledItem tag)

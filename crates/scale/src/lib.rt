@@ -1,17 +1,15 @@
 // Codes and house units: what a stored code stands for, and the code of a value, to the nearest, for every item that has a scale.
 // Values and codes are the nearest, and 19, 20 and 21 come exactly where document 01 has them.
 ghost use mathlib.Core.Path.{_≡_};
-ghost use mathlib.Core.Bool.{true, false, _&&_};
-ghost use Prim.Native.Nat.{_*_, _/_, _^_, _<_, _≤_};
+ghost use mathlib.Core.Bool.{true, false, cond, _&&_};
+ghost use Prim.Native.Nat.{_-_, _*_, _/_, _^_, _<_, _≤_};
 ghost use lib.Dec.{leb};
 ghost use lib.IntN.{ℤ, natAbs, _-ℤ_, _+ℤ_, pos};
 ghost use lib.Signed.{mag, ltZ};
-ghost use Rattle.catalogue.specs.Items.{itemOf};
 ghost use Rattle.catalogue.specs.Shapes.{isMarked};
-ghost use Rattle.catalogue.specs.declared.Found.the-variants.{Known};
 ghost use Rattle.scale.specs.Nearest.{nearest};
 ghost use Rattle.scale.specs.Scales.{isNumber, isOutside, side};
-ghost use Rattle.scale.specs.Conversions.{houseOf, houseBy, toHouse, codeOf, codeBy, toCode};
+ghost use Rattle.scale.specs.Conversions.{scaledItem, houseOf, toHouse, codeOf, toCode};
 ghost use Rattle.scale.specs.Rule.{Rule, Scales, Counted};
 ghost use Rattle.scale.specs.Said.{houseSaid, codeSaid};
 use catalogue::Found;
@@ -44,8 +42,15 @@ pub enum ToCode {
 pub fn to_house(tag: u64, code: u64) -> ToHouse
     ensures { λ r. ⌜ houseSaid r ≡ toHouse tag code ⌝ }
 {
-    match catalogue::item_of(tag) {
-        Found::Known(item) => item_house(item, tag, code),
+    match scaled_item(tag) {
+        Found::Known(item) => {
+            if is_number(item, code) {
+                return ToHouse::Is(House {
+                    value: house_of(item, code),
+                });
+            }
+            ToHouse::Refused(refuse(Reason::NotANumber, tag))
+        }
         Found::Absent => ToHouse::Refused(refuse(Reason::NoScale, tag)),
     }
 }
@@ -54,8 +59,15 @@ pub fn to_house(tag: u64, code: u64) -> ToHouse
 pub fn to_code(tag: u64, value: i64) -> ToCode
     ensures { λ r. ⌜ codeSaid r ≡ toCode tag value ⌝ }
 {
-    match catalogue::item_of(tag) {
-        Found::Known(item) => item_code(item, tag, value),
+    match scaled_item(tag) {
+        Found::Known(item) => {
+            if is_outside(item, value) {
+                return ToCode::Refused(refuse(Reason::ValueOutOfRange, tag));
+            }
+            ToCode::Is(Code {
+                code: code_of(item, value),
+            })
+        }
         Found::Absent => ToCode::Refused(refuse(Reason::NoScale, tag)),
     }
 }
@@ -71,37 +83,28 @@ fn refuse(reason: Reason, tag: u64) -> Refusal
     }
 }
 
-fn item_house(item: Item, tag: u64, code: u64) -> ToHouse
-    requires { ⌜ itemOf tag ≡ Known item ⌝ }
-    ensures { λ r. ⌜ houseSaid r ≡ houseBy tag code (Known item) ⌝ }
+// The item of a tag, if it has a scale.
+fn scaled_item(tag: u64) -> Found
+    ensures { λ r. ⌜ r ≡ scaledItem tag ⌝ }
 {
-    if item.low < item.high {
-        if is_number(item, code) {
-            return ToHouse::Is(House {
-                value: house_of(item, code),
-            });
+    match catalogue::item_of(tag) {
+        Found::Known(item) => {
+            if item.low < item.high {
+                return Found::Known(item);
+            }
+            Found::Absent
         }
-        return ToHouse::Refused(refuse(Reason::NotANumber, tag));
+        Found::Absent => Found::Absent,
     }
-    ToHouse::Refused(refuse(Reason::NoScale, tag))
 }
 
-fn item_code(item: Item, tag: u64, value: i64) -> ToCode
-    requires { ⌜ itemOf tag ≡ Known item ⌝ }
-    ensures { λ r. ⌜ codeSaid r ≡ codeBy tag value (Known item) ⌝ }
+fn is_outside(item: Item, value: i64) -> bool
+    ensures { λ r. ⌜ r ≡ isOutside item value ⌝ }
 {
-    if item.low < item.high {
-        if value < item.low {
-            return ToCode::Refused(refuse(Reason::ValueOutOfRange, tag));
-        }
-        if item.high < value {
-            return ToCode::Refused(refuse(Reason::ValueOutOfRange, tag));
-        }
-        return ToCode::Is(Code {
-            code: code_of(item, value),
-        });
+    if value < item.low {
+        return true;
     }
-    ToCode::Refused(refuse(Reason::NoScale, tag))
+    item.high < value
 }
 
 // How many codes a number of so many bytes has.
@@ -185,19 +188,31 @@ fn two_sided(codes: u64, high: i64) -> Scale
 }
 
 // How far it is from one value up to another.
-fn apart(from: i64, to: i64) -> u64
+fn up_to(from: i64, to: i64) -> u64
     requires { ⌜ (ltZ to from ≡ false) × (mag from < 2 ^ 62) × (mag to < 2 ^ 62) ⌝ }
     ensures { λ r. ⌜ r ≡ natAbs (to -ℤ from) ⌝ }
 {
     (to - from) as u64
 }
 
-// The nearest whole number to p / q, a tie going up.
-fn rounded(p: u64, q: u64) -> u64
-    requires { ⌜ 0 < q ⌝ }
-    requires { ⌜ p < 2 ^ 63 ⌝ }
-    ensures { λ r. ⌜ r ≡ nearest p q ⌝ }
+// How far two values are apart.
+fn apart(from: i64, to: i64) -> u64
+    requires { ⌜ (mag from < 2 ^ 62) × (mag to < 2 ^ 62) ⌝ }
+    ensures { λ r. ⌜ r ≡ natAbs (to -ℤ from) ⌝ }
 {
+    if to < from {
+        return up_to(to, from);
+    }
+    up_to(from, to)
+}
+
+// The nearest whole number to far * by / q, a tie going up.
+fn rounded(far: u64, by: u64, q: u64) -> u64
+    requires { ⌜ 0 < q ⌝ }
+    requires { ⌜ far * by < 2 ^ 63 ⌝ }
+    ensures { λ r. ⌜ r ≡ nearest (far * by) q ⌝ }
+{
+    let p = far * by;
     let whole = p / q;
     let rest = p % q;
     if q - rest <= rest {
@@ -216,18 +231,39 @@ fn is_below(s: Scale, code: u64) -> bool
     false
 }
 
+// A distance as a code, or a code as a distance: below zero both are counted down from the number of codes.
+fn turned(codes: u64, below: bool, n: u64) -> u64
+    requires { ⌜ n ≤ codes ⌝ }
+    ensures { λ r. ⌜ r ≡ cond below (codes - n) n ⌝ }
+{
+    if below {
+        return codes - n;
+    }
+    n
+}
+
+// The value that is so many units from the origin.
+fn placed(origin: i64, below: bool, units: u64) -> i64
+    requires { ⌜ (mag origin < 2 ^ 62) × (units < 2 ^ 62) ⌝ }
+    ensures { λ r. ⌜ r ≡ origin +ℤ side below units ⌝ }
+{
+    let far = units as i64;
+    if below {
+        return origin - far;
+    }
+    origin + far
+}
+
 fn house_of(item: Item, code: u64) -> i64
     requires { ⌜ Rule item ⌝ }
     requires { ⌜ isNumber item code ≡ true ⌝ }
     ensures { λ r. ⌜ r ≡ houseOf item code ⌝ }
 {
     let s = scale_of(item);
-    if is_below(s, code) {
-        let units = rounded((s.codes - code) * s.reach, s.steps);
-        return s.origin - (units as i64);
-    }
-    let units = rounded(code * s.reach, s.steps);
-    s.origin + (units as i64)
+    let below = is_below(s, code);
+    let far = turned(s.codes, below, code);
+    let units = rounded(far, s.reach, s.steps);
+    placed(s.origin, below, units)
 }
 
 fn code_of(item: Item, value: i64) -> u64
@@ -237,12 +273,9 @@ fn code_of(item: Item, value: i64) -> u64
 {
     let s = scale_of(item);
     let origin = s.origin;
-    if value < origin {
-        let far = rounded(apart(value, origin) * s.steps, s.reach);
-        if 0 < far {
-            return s.codes - far;
-        }
-        return far;
+    let far = rounded(apart(origin, value), s.steps, s.reach);
+    if 0 < far {
+        return turned(s.codes, value < origin, far);
     }
-    rounded(apart(origin, value) * s.steps, s.reach)
+    far
 }

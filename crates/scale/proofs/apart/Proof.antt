@@ -1,33 +1,38 @@
 -- `scale::apart` meets its contract.
 -- Assumes nothing.
 use borrow.Author.Needs.{needs}
+use mathlib.Core.Path.{_∙_}
 use mir.Syntax.{w64}
 use mir.Val.{SFits}
 use mir.Facts.{toZ-ofZ}
-use Rattle.base.specs.Whole.{natural}
-use Rattle.scale.proofs.Whole.{difference-fits, up-natural}
+use Rattle.scale.proofs.Whole.{ltZ-turn, natAbs-turn}
 use Rattle.scale.proofs.apart.Statement.{statement}
 use Rattle.scale.proofs.apart.Tie as tie
 
-sub-result : tie.Need-sub-result
-sub-result c =
-    let to-fits : SFits w64 (c .args .to) = search needs in
-    let from-fits : SFits w64 (c .args .from) = search needs in
-    rw (toZ-ofZ to-fits, toZ-ofZ from-fits) (difference-fits (c .args .to) (c .args .from) (c .pre .2) (c .pre .1))
+from-fits : (a : tie.Start) → SFits w64 (a .args .from)
+from-fits a = search needs
 
-cast-result : tie.Need-cast-result
-cast-result c =
-    let to-fits : SFits w64 (c .args .to) = search needs in
-    let from-fits : SFits w64 (c .args .from) = search needs in
-    let fits = difference-fits (c .args .to) (c .args .from) (c .pre .2) (c .pre .1) in
-    rw (toZ-ofZ to-fits, toZ-ofZ from-fits, toZ-ofZ fits) (natural _ fits (up-natural (c .args .from) (c .args .to) (c .pre .0)))
+to-fits : (a : tie.Start) → SFits w64 (a .args .to)
+to-fits a = search needs
+
+up-to-requires : tie.Need-up-to-requires
+up-to-requires c κs =
+    let a = c .before in
+    let e = rw (toZ-ofZ (to-fits a), toZ-ofZ (from-fits a)) at (c .if1 .taken) in
+    rw (toZ-ofZ (to-fits a), toZ-ofZ (from-fits a)) (ltZ-turn (a .args .to) (a .args .from) e, a .pre .1, a .pre .0)
 
 returns : tie.Need-returns
 returns c =
-    let to-fits : SFits w64 (c .args .to) = search needs in
-    let from-fits : SFits w64 (c .args .from) = search needs in
-    let fits = difference-fits (c .args .to) (c .args .from) (c .pre .2) (c .pre .1) in
-    rw (toZ-ofZ to-fits, toZ-ofZ from-fits, toZ-ofZ fits)
+    let a = c .before .before in
+    (rw (toZ-ofZ (to-fits a), toZ-ofZ (from-fits a)) at (c .up-to .ensures)) ∙ natAbs-turn (a .args .from) (a .args .to)
+
+up-to-requires-2 : tie.Need-up-to-requires-2
+up-to-requires-2 c κs = search needs
+
+returns-2 : tie.Need-returns-2
+returns-2 c =
+    let a = c .before .before in
+    rw (toZ-ofZ (to-fits a), toZ-ofZ (from-fits a)) at (c .up-to2 .ensures)
 
 pub apart-spec : {M : Type 1} → statement M
-apart-spec = tie.close (tie.spec sub-result cast-result returns)
+apart-spec = tie.close (tie.spec up-to-requires returns up-to-requires-2 returns-2)

@@ -2,14 +2,14 @@
 -- Assumes nothing.
 use borrow.Author.Needs.{needs}
 use native.Mathlib.Omega.{arith}
-use Prim.Native.Nat.{_-_, _^_, _<_}
-use mathlib.Core.Path.{sym, _∙_}
-use lib.IntN.{pos}
+use Prim.Native.Nat.{_≤_}
+use mathlib.Core.Path.{_≡_, _∙_}
 use mir.Syntax.{w64}
-use mir.Facts.{toZ-ofZ, toZ-pos}
-use Rattle.scale.specs.Scales.{codes, origin}
-use Rattle.scale.proofs.Whole.{sum-fits, difference-fits}
-use Rattle.scale.proofs.Items.{number-fits, house-product, some-steps-reduced, origin-small, origin-fits, below-same, house-below, house-above, units-fit}
+use mir.Val.{SFits}
+use mir.Facts.{toZ-ofZ}
+use Rattle.scale.specs.Scales.{codes, codeBelow, codeFar}
+use Rattle.scale.specs.Conversions.{unitsAway, houseOf}
+use Rattle.scale.proofs.Items.{number-fits, far-fits, origin-small, origin-fits, below-same, units-same, units-round, units-few}
 use Rattle.scale.proofs.house_of.Statement.{statement}
 use Rattle.scale.proofs.house_of.Tie as tie
 
@@ -19,107 +19,60 @@ scale-of-requires c κs = search needs
 is-below-requires : tie.Need-is-below-requires
 is-below-requires c κs = search needs
 
-sub-rounded : tie.Need-sub-rounded
-sub-rounded c =
-    let a = c .before .before .before .before in
-    omega (arith, number-fits (a .args .item) (a .pre .0) (a .args .code) (a .pre .1), c .before .before .before .scale-of .ensures .all-codes)
+turned-requires : tie.Need-turned-requires
+turned-requires c κs =
+    let a = c .before .before in
+    omega (arith, number-fits (a .args .item) (a .pre .0) (a .args .code) (a .pre .1), c .before .scale-of .ensures .all-codes)
 
-mul-rounded : tie.Need-mul-rounded
-mul-rounded c =
-    let a = c .before .before .before .before .before in
-    let k = c .before .before .before .before .scale-of .ensures in
-    rw (k .all-codes, k .units) (record { fits = omega (arith, house-product (a .args .item) (a .pre .0) (codes (a .args .item) - a .args .code) (omega arith)) })
+-- the code's side and distance, and the units of the distance
+below-is : (c : tie.After-is-below) → c .is-below .result ≡ codeBelow (c .before .before .args .item) (c .before .before .args .code)
+below-is c =
+    let b = c .before in
+    c .is-below .ensures ∙ below-same (b .before .args .item) (b .before .pre .0) (b .scale-of .ensures) (b .before .args .code)
+
+far-is : (c : tie.After-turned) → c .turned .result ≡ codeFar (c .before .before .before .args .item) (c .before .before .before .args .code)
+far-is c = rw (c .turned .ensures, below-is (c .before), c .before .before .scale-of .ensures .all-codes)
+
+few : (a : tie.Start) → codeFar (a .args .item) (a .args .code) ≤ codes (a .args .item)
+few a = far-fits (a .args .item) (a .pre .0) (a .args .code) (a .pre .1)
 
 rounded-requires : tie.Need-rounded-requires
 rounded-requires c κs =
-    let a = c .before .before .before .before .before in
-    let k = c .before .before .before .before .scale-of .ensures in
-    rw (k .all-codes, k .units, k .count) (some-steps-reduced (a .args .item) (a .pre .0), house-product (a .args .item) (a .pre .0) (codes (a .args .item) - a .args .code) (omega arith))
-
--- the units found are few
-below-few : (c : tie.After-rounded) → c .rounded .result < 2 ^ 62
-below-few c =
-    let b = c .before .before .before .before .before in
+    let b = c .before .before in
     let a = b .before in
-    rw (c .rounded .ensures)
-    (units-fit (a .args .item) (a .pre .0) (b .scale-of .result) (b .scale-of .ensures) (a .args .code) (b .scale-of .result .codes - a .args .code)
-    (omega (arith, b .scale-of .ensures .all-codes)))
+    rw (far-is c)
+    (units-round (a .args .item) (a .pre .0) (b .scale-of .ensures) (codeFar (a .args .item) (a .args .code)) (few a))
 
-above-few : (c : tie.After-rounded2) → c .rounded2 .result < 2 ^ 62
-above-few c =
+units-away : (c : tie.After-rounded) → let a = c .before .before .before .before in
+    c .rounded .result ≡ unitsAway (a .args .item) (a .args .code)
+units-away c =
+    let b = c .before .before .before in
+    let a = b .before in
+    rw (c .rounded .ensures, far-is (c .before))
+    (units-same (a .args .item) (a .pre .0) (b .scale-of .ensures) (codeFar (a .args .item) (a .args .code)))
+
+placed-requires : tie.Need-placed-requires
+placed-requires c κs =
     let b = c .before .before .before .before in
     let a = b .before in
-    rw (c .rounded2 .ensures)
-    (units-fit (a .args .item) (a .pre .0) (b .scale-of .result) (b .scale-of .ensures) (a .args .code) (a .args .code)
-    (omega (arith, number-fits (a .args .item) (a .pre .0) (a .args .code) (a .pre .1))))
-
-cast-result : tie.Need-cast-result
-cast-result c = record { sfits = omega (arith, below-few c) }
-
-sub-result : tie.Need-sub-result
-sub-result c =
-    let a = c .before .before .before .before .before .before .before .before in
-    let k = c .before .before .before .before .before .before .before .scale-of .ensures in
-    let few = below-few (c .before .before) in
-    rw (toZ-ofZ (origin-fits (a .args .item) (a .pre .0) k), k .from, toZ-pos w64 {n = c .before .before .rounded .result} (omega arith))
-    (difference-fits (origin (a .args .item)) (pos (c .before .before .rounded .result)) (origin-small (a .args .item) (a .pre .0)) few)
+    let k = b .scale-of .ensures in
+    rw (toZ-ofZ (origin-fits (a .args .item) (a .pre .0) k), k .from, units-away (c .before))
+    (origin-small (a .args .item) (a .pre .0), units-few (a .args .item) (a .pre .0) (codeFar (a .args .item) (a .args .code)) (few a))
 
 returns : tie.Need-returns
+unfolding houseOf
 returns c =
-    let b = c .before .before .before .before .before .before .before in
-    let a = b .before in
+    let b = c .before .before .before .before .before in
     let k = b .scale-of .ensures in
-    let few = below-few (c .before .before) in
-    let below = sym (below-same (a .args .item) (a .pre .0) (b .scale-of .result) k (a .args .code))
-    ∙ (sym (c .before .before .before .before .before .before .is-below .ensures) ∙ c .before .before .before .before .before .if1 .taken) in
+    let fits : SFits w64 (c .placed .result) = search needs in
     rw (
-      toZ-ofZ (origin-fits (a .args .item) (a .pre .0) k),
+      toZ-ofZ fits,
+      c .placed .ensures,
+      toZ-ofZ (origin-fits (b .before .args .item) (b .before .pre .0) k),
       k .from,
-      toZ-pos w64 {n = c .before .before .rounded .result} (omega arith),
-      toZ-ofZ (difference-fits (origin (a .args .item)) (pos (c .before .before .rounded .result)) (origin-small (a .args .item) (a .pre .0)) few),
-      c .before .before .rounded .ensures,
+      below-is (c .before .before .before .before),
+      units-away (c .before .before),
     )
-    (house-below (a .args .item) (a .pre .0) (b .scale-of .result) k (a .args .code) below)
-
-mul-rounded-2 : tie.Need-mul-rounded-2
-mul-rounded-2 c =
-    let a = c .before .before .before .before in
-    let k = c .before .before .before .scale-of .ensures in
-    rw (k .units) (record { fits = omega (arith, house-product (a .args .item) (a .pre .0) (a .args .code) (omega (arith, number-fits (a .args .item) (a .pre .0) (a .args .code) (a .pre .1)))) })
-
-rounded-requires-2 : tie.Need-rounded-requires-2
-rounded-requires-2 c κs =
-    let a = c .before .before .before .before in
-    let k = c .before .before .before .scale-of .ensures in
-    rw (k .units, k .count) (some-steps-reduced (a .args .item) (a .pre .0), house-product (a .args .item) (a .pre .0) (a .args .code) (omega (arith, number-fits (a .args .item) (a .pre .0) (a .args .code) (a .pre .1))))
-
-cast-result-2 : tie.Need-cast-result-2
-cast-result-2 c = record { sfits = omega (arith, above-few c) }
-
-add-result : tie.Need-add-result
-add-result c =
-    let a = c .before .before .before .before .before .before .before in
-    let k = c .before .before .before .before .before .before .scale-of .ensures in
-    let few = above-few (c .before .before) in
-    rw (toZ-ofZ (origin-fits (a .args .item) (a .pre .0) k), k .from, toZ-pos w64 {n = c .before .before .rounded2 .result} (omega arith))
-    (sum-fits (origin (a .args .item)) (pos (c .before .before .rounded2 .result)) (origin-small (a .args .item) (a .pre .0)) few)
-
-returns-2 : tie.Need-returns-2
-returns-2 c =
-    let b = c .before .before .before .before .before .before in
-    let a = b .before in
-    let k = b .scale-of .ensures in
-    let few = above-few (c .before .before) in
-    let above = sym (below-same (a .args .item) (a .pre .0) (b .scale-of .result) k (a .args .code))
-    ∙ (sym (c .before .before .before .before .before .is-below .ensures) ∙ c .before .before .before .before .if1 .left) in
-    rw (
-      toZ-ofZ (origin-fits (a .args .item) (a .pre .0) k),
-      k .from,
-      toZ-pos w64 {n = c .before .before .rounded2 .result} (omega arith),
-      toZ-ofZ (sum-fits (origin (a .args .item)) (pos (c .before .before .rounded2 .result)) (origin-small (a .args .item) (a .pre .0)) few),
-      c .before .before .rounded2 .ensures,
-    )
-    (house-above (a .args .item) (a .pre .0) (b .scale-of .result) k (a .args .code) above)
 
 pub house-of-spec : {M : Type 1} → statement M
 house-of-spec =
@@ -127,14 +80,7 @@ house-of-spec =
     (tie.spec
     scale-of-requires
     is-below-requires
-    sub-rounded
-    mul-rounded
+    turned-requires
     rounded-requires
-    cast-result
-    sub-result
-    returns
-    mul-rounded-2
-    rounded-requires-2
-    cast-result-2
-    add-result
-    returns-2)
+    placed-requires
+    returns)
