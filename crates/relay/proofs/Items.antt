@@ -4,23 +4,28 @@ use Prim.Native.Nat.{ℕ, _+_, _-_, _<_, _≤_}
 use native.Mathlib.Omega.{arith}
 use native.Mathlib.Nat.{zero-add}
 use mathlib.Core.Path.{_≡_, ap, sym, _∙_}
-use mathlib.Core.List.{List, _∷_}
+use mathlib.Core.List.{List, [], _∷_}
 use lib.ListN.{length, take, drop, length-append, length-take, length-drop}
-use Rattle.base.specs.Putting.{putInto}
+use Rattle.base.specs.Parts.{part-lent}
+use Rattle.base.specs.Putting.{putInto, Room, Wrote}
+use Rattle.base.proofs.Putting.{to-write, wrote-as, wrote-nothing}
 use Rattle.refusal.specs.Answer.{given}
 use Rattle.number.specs.Stored.{Bytes}
 use Rattle.ber.specs.Written.{tagBytes, lengthBytes}
 use Rattle.packet.specs.Pieces.{pieces}
 use Rattle.packet.specs.Structure.{structure}
-use Rattle.packet.specs.Headers.{itemBy, headerAt}
+use Rattle.packet.specs.Headers.{itemBy, headerAt, stepSaid}
 use Rattle.packet.specs.Encode.{piecesIn, itemBytes, itemsBytes, canonical}
 use Rattle.packet.specs.declared.Header.{Header}
+use Rattle.packet.specs.declared.Step.{Step}
+use Rattle.packet.specs.declared.Step.the-variants.{Item}
+use Rattle.packet.proofs.Walks.{Lies, header-lies}
 use Rattle.laws.proofs.Structure.{structure-formed}
 use Rattle.laws.proofs.Written.{length-item, length-encode}
 use Rattle.laws.proofs.Forward.{canonical-shorter}
-use Rattle.writer.proofs.Pieces.{Left, all-left, none-left, piece-room, piece-put}
+use Rattle.writer.proofs.Pieces.{piece-room, piece-put}
 use Rattle.relay.specs.Sends.{itemsFor, ItemsFrom}
-use Rattle.relay.proofs.Walking.{Ahead, no-more, next}
+use Rattle.relay.proofs.Walking.{Ahead, no-more, Next, next}
 
 -- the item that a header stands for, within the packet
 module _ (p : List ℕ) (i : Header) (inside : i .place + i .size ≤ length p) where
@@ -29,18 +34,20 @@ module _ (p : List ℕ) (i : Header) (inside : i .place + i .size ≤ length p) 
 
   -- as code lends it
   pub value-lent : take (i .place + i .size - i .place) (drop (i .place) p) ≡ itemBy p i .piece .value
-  value-lent = let e : i .place + i .size - i .place ≡ i .size = omega arith in rw e
+  value-lent = part-lent p (i .place) (i .size)
 
-  pub item-size : length (itemBytes (itemBy p i .piece)) ≡ length (tagBytes (i .tag)) + length (lengthBytes (i .size)) + i .size
-  item-size = length-item (itemBy p i .piece) ∙ ap (λ n. length (tagBytes (i .tag)) + length (lengthBytes n) + n) value-size
+  pub item-size : {tag form : ℕ} → tag ≡ length (tagBytes (i .tag)) → form ≡ length (lengthBytes (i .size))
+      → tag + form + i .size ≡ length (itemBytes (itemBy p i .piece))
+  item-size e f = rw (e, f) (sym (length-item (itemBy p i .piece) ∙ ap (λ n. length (tagBytes (i .tag)) + length (lengthBytes n) + n) value-size))
 
 -- key, length, items
 pub canonical-size : (p : List ℕ) → length (canonical p) ≡ 16 + length (lengthBytes (length (itemsFor p))) + length (itemsFor p)
 unfolding canonical
 canonical-size p = length-encode (piecesIn (structure p))
 
-pub packet-size : (p : List ℕ) (items form : ℕ) → items ≡ length (itemsFor p) → form ≡ length (lengthBytes items) → 16 + form + items ≡ length (canonical p)
-packet-size p items form e f = rw (f, e) (sym (canonical-size p))
+pub packet-size : (p : List ℕ) {items form : ℕ} → items ≡ length (itemsFor p) → form ≡ length (lengthBytes items)
+    → 16 + form + items ≡ length (canonical p)
+packet-size p e f = rw (f, e) (sym (canonical-size p))
 
 -- size bytes are counted, and with the items ahead all
 pub record Sizing (p : List ℕ) (here size : ℕ) : Type 0 where
@@ -48,10 +55,10 @@ pub record Sizing (p : List ℕ) (here size : ℕ) : Type 0 where
   pub sum : size + length (itemsBytes (pieces (ahead .items))) ≡ length (itemsFor p)
   pub few : length (itemsFor p) ≤ 8192
 
--- the items ahead wait to be put at a place, and make the output x
-pub record Waiting (p : List ℕ) (here : ℕ) (o : List ℕ) (at : ℕ) (x : List ℕ) : Type 0 where
+-- the items ahead wait to be put at a place: they make the output x and end at a place
+pub record Waiting (p : List ℕ) (here : ℕ) (o : List ℕ) (at end : ℕ) (x : List ℕ) : Type 0 where
   pub ahead : Ahead p here
-  pub left : Left (pieces (ahead .items)) o at x
+  pub rest : Wrote o at (itemsBytes (pieces (ahead .items))) end x
 
 -- all items of a packet whose structure is right
 module _ (p : List ℕ) (from : ℕ) (f : ItemsFrom p from) where
@@ -68,9 +75,17 @@ module _ (p : List ℕ) (from : ℕ) (f : ItemsFrom p from) where
   all-counted by =
       record { ahead = all-ahead; sum = zero-add _ ∙ ap length its-items; few = omega (arith, canonical-size p, small by) }
 
-  pub all-waiting : (o : List ℕ) (start : ℕ) → start + length (itemsFor p) ≤ length o → Waiting p from o start (putInto o start (itemsFor p))
-  all-waiting o start h =
-      record { ahead = all-ahead; left = rw (← its-items) (all-left o start (pieces (f .items)) (rw its-items h)) }
+  pub all-waiting : {o : List ℕ} {start : ℕ} → Room o start (itemsFor p)
+      → Waiting p from o start (start + length (itemsFor p)) (putInto o start (itemsFor p))
+  all-waiting h = record { ahead = all-ahead; rest = wrote-as (sym its-items) (to-write h) }
+
+-- an item that the code found
+module _ (p : List ℕ) (here : ℕ) {x : Step} (said : stepSaid x ≡ headerAt p here) {i : Header} (is : x ≡ Item i) where
+  item-found : headerAt p here ≡ given i
+  item-found = sym said ∙ ap stepSaid is
+
+  pub item-lies : Bytes p → Lies p here i
+  item-lies by = header-lies p here by i item-found
 
 -- item by item
 module _ (p : List ℕ) (here : ℕ) where
@@ -81,28 +96,38 @@ module _ (p : List ℕ) (here : ℕ) where
         let e : length (itemsBytes (pieces (s .ahead .items))) ≡ 0 = ap (λ is. length (itemsBytes (pieces is))) (no-more p here (s .ahead) h) in
         omega (arith, s .sum)
 
-    module _ (h : here < length p) (i : Header) (e : headerAt p here ≡ given i) where
-      both : length (itemsBytes (pieces (s .ahead .items))) ≡ length (itemBytes (itemBy p i .piece)) + length (itemsBytes (pieces (next p here (s .ahead) h i e .ahead .items)))
+    module _ (h : here < length p) {x : Step} (said : stepSaid x ≡ headerAt p here) {i : Header} (is : x ≡ Item i) where
+      sum-next : Next p here (s .ahead) h i
+      sum-next = next p here (s .ahead) h i (item-found p here said is)
+
+      both : length (itemsBytes (pieces (s .ahead .items)))
+          ≡ length (itemBytes (itemBy p i .piece)) + length (itemsBytes (pieces (sum-next .ahead .items)))
       unfolding itemsBytes
       both =
-          ap (λ is. length (itemsBytes (pieces is))) (next p here (s .ahead) h i e .items) ∙ length-append (itemBytes (itemBy p i .piece)) _
+          ap (λ is. length (itemsBytes (pieces is))) (sum-next .items) ∙ length-append (itemBytes (itemBy p i .piece)) _
 
       pub sum-small : size + length (itemBytes (itemBy p i .piece)) ≤ 8192
       sum-small = omega (arith, both, s .sum, s .few)
 
       pub sum-more : Sizing p (i .place + i .size) (size + length (itemBytes (itemBy p i .piece)))
-      sum-more = record { ahead = next p here (s .ahead) h i e .ahead; sum = omega (arith, both, s .sum); few = s .few }
+      sum-more = record { ahead = sum-next .ahead; sum = omega (arith, both, s .sum); few = s .few }
 
-  module _ (o : List ℕ) (at : ℕ) (x : List ℕ) (w : Waiting p here o at x) where
-    pub put-done : length p ≤ here → o ≡ x
-    put-done h = none-left o at x (rw (no-more p here (w .ahead) h) at (w .left))
+  module _ {o : List ℕ} {at end : ℕ} {x : List ℕ} (w : Waiting p here o at end x) where
+    pub put-done : length p ≤ here → (end ≡ at) × (x ≡ o)
+    unfolding itemsBytes
+    put-done h =
+        let e : itemsBytes (pieces (w .ahead .items)) ≡ [] = ap (λ is. itemsBytes (pieces is)) (no-more p here (w .ahead) h) in
+        wrote-nothing (wrote-as e (w .rest))
 
-    module _ (h : here < length p) (i : Header) (e : headerAt p here ≡ given i) where
-      this : Left (itemBy p i .piece ∷ pieces (next p here (w .ahead) h i e .ahead .items)) o at x
-      this = rw (next p here (w .ahead) h i e .items) at (w .left)
+    module _ (h : here < length p) {y : Step} (said : stepSaid y ≡ headerAt p here) {i : Header} (is : y ≡ Item i) where
+      put-next : Next p here (w .ahead) h i
+      put-next = next p here (w .ahead) h i (item-found p here said is)
 
-      pub put-room : at + length (itemBytes (itemBy p i .piece)) ≤ length o
-      put-room = piece-room o at x _ _ this
+      this : Wrote o at (itemsBytes (itemBy p i .piece ∷ pieces (put-next .ahead .items))) end x
+      this = wrote-as (ap (λ is. itemsBytes (pieces is)) (put-next .items)) (w .rest)
 
-      pub put-more : (o′ : List ℕ) (at′ : ℕ) → (at′ ≡ at + length (itemBytes (itemBy p i .piece))) × (o′ ≡ putInto o at (itemBytes (itemBy p i .piece))) → Waiting p (i .place + i .size) o′ at′ x
-      put-more o′ at′ q = record { ahead = next p here (w .ahead) h i e .ahead; left = piece-put o at x _ _ this o′ at′ q }
+      pub put-room : Room o at (itemBytes (itemBy p i .piece))
+      put-room = piece-room _ _ this
+
+      pub put-more : {at′ : ℕ} {o′ : List ℕ} → Wrote o at (itemBytes (itemBy p i .piece)) at′ o′ → Waiting p (i .place + i .size) o′ at′ end x
+      put-more v = record { ahead = put-next .ahead; rest = piece-put _ _ this v }

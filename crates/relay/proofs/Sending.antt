@@ -73,9 +73,10 @@ module _ (K : TagSet) (p t : List ℕ) (n : ℕ) (by : Bytes p) (e : readAnswer 
       let a : Accepts (holds K) p (was-read .items) = accepts (holds K) p (was-read .items) (was-read .accepted) in
       let f : Formed p (was-read .items) = structure-formed p (was-read .items) by (a .found) in
       let long : 4 * n ≤ length (readTable K p t) = rw (was-read .table) (omega (arith, was-read .count, table-long (holds K) (was-read .items) t)) in
+      let few : n ≤ 128 = omega (arith, f .few, was-read .count) in
       record {
         knows = was-read .right;
-        counted = both-true (leb n 128) (leb (4 * n) (length (readTable K p t))) (le-leb n 128 (omega (arith, f .few, was-read .count))) (le-leb (4 * n) (length (readTable K p t)) long);
+        counted = both-true (leb n 128) (leb (4 * n) (length (readTable K p t))) (le-leb n 128 few) (le-leb _ _ long);
         rows = rw its-rows (rows-good (holds K) p (was-read .items) by (was-read .accepted));
         pieces = rw its-pieces (all-sent (holds K) p (was-read .items) by a);
       }
@@ -87,7 +88,8 @@ module _ (K : TagSet) (p t : List ℕ) (n : ℕ) (by : Bytes p) (e : readAnswer 
   canonical-of = canonical-is p (was-read .items) by (accepts (holds K) p (was-read .items) (was-read .accepted) .found)
 
   -- written with the packet as buffer: sent where there is room
-  pub write-sends : (o : List ℕ) → (writeAnswer K n (readTable K p t) p o ≡ sentAnswer (canonical p) o) × (writeOutput K n (readTable K p t) p o ≡ sentOutput (canonical p) o)
+  pub write-sends : (o : List ℕ) → (writeAnswer K n (readTable K p t) p o ≡ sentAnswer (canonical p) o)
+      × (writeOutput K n (readTable K p t) p o ≡ sentOutput (canonical p) o)
   unfolding writeAnswer writeOutput written
   write-sends o =
       rw (goes-as, canonical-of)
@@ -110,7 +112,8 @@ module _ (K : TagSet) (p : List ℕ) where
       go (refused m b v) f = cc
 
   module _ (by : Bytes p) where
-    pub forward-is : (o : List ℕ) (n : ℕ) → readAnswer K p ownTable ≡ given n → (forwardAnswer K p o ≡ sentAnswer (canonical p) o) × (forwardOutput K p o ≡ sentOutput (canonical p) o)
+    pub forward-is : (o : List ℕ) (n : ℕ) → readAnswer K p ownTable ≡ given n → (forwardAnswer K p o ≡ sentAnswer (canonical p) o)
+        × (forwardOutput K p o ≡ sentOutput (canonical p) o)
     unfolding forwardAnswer forwardOutput
     forward-is o n e = rw e (write-sends K p ownTable n by e o)
 

@@ -1,5 +1,5 @@
 -- An accepted packet sent on, in the terms of the definitions.
-use Prim.Native.Nat.{ℕ}
+use Prim.Native.Nat.{ℕ, _≤_}
 use mathlib.Core.Path.{_≡_}
 use mathlib.Core.Bool.{cond}
 use mathlib.Core.List.{List, _++_}
@@ -8,7 +8,7 @@ use lib.ListN.{length, drop}
 use Rattle.refusal.specs.Answer.{Answer, given, refused}
 use Rattle.packet.specs.Pieces.{Item, walk}
 use Rattle.packet.specs.Structure.{structure}
-use Rattle.packet.specs.Encode.{piecesIn, itemsBytes}
+use Rattle.packet.specs.Encode.{piecesIn, itemsBytes, canonical}
 use Rattle.relay.specs.Forwards.{forwardSaid}
 use Rattle.relay.specs.declared.Forwarding.{Forwarding}
 
@@ -21,6 +21,13 @@ pub record ItemsFrom (p : List ℕ) (from : ℕ) : Type 0 where
   pub items : List Item
   pub found : structure p ≡ given items
   pub walked : walk 128 from (drop from p) ≡ given items
+
+-- all that is sent on has so many bytes, so many of them the items', and there is room for it
+pub record Sendable (p : List ℕ) (from size items room : ℕ) : Type 0 where
+  pub walks : ItemsFrom p from
+  pub whole : size ≡ length (canonical p)
+  pub part : items ≡ length (itemsFor p)
+  pub fits : size ≤ room
 
 -- bytes q sent: their number, or 18
 abbrev pub sentAnswer : List ℕ → List ℕ → Answer ℕ

@@ -3,11 +3,11 @@
 ghost use mathlib.Core.Path.{_≡_};
 ghost use Prim.Native.Nat.{_+_, _≤_};
 ghost use lib.ListN.{length};
-ghost use Rattle.base.specs.Putting.{putInto};
+ghost use Rattle.base.specs.Putting.{Room, Wrote};
 ghost use Rattle.packet.specs.Headers.{itemBy};
 ghost use Rattle.packet.specs.Encode.{itemBytes, canonical};
 ghost use Rattle.relay.specs.Forwards.{Forwards};
-ghost use Rattle.relay.specs.Sends.{itemsFor, ItemsFrom, Sends};
+ghost use Rattle.relay.specs.Sends.{itemsFor, ItemsFrom, Sendable, Sends};
 use packet::Checked;
 use packet::Header;
 use packet::Step;
@@ -57,8 +57,8 @@ fn items_size(packet: &[u8], from: usize) -> usize
 
 // An item, its value as it stands in the packet, and the place after it.
 fn put_item(out: &mut [u8], at: usize, packet: &[u8], item: Header) -> usize
-    requires { ⌜ (item .place + item .size ≤ length (now packet)) × (at + length (itemBytes (itemBy (now packet) item .piece)) ≤ length (now out)) ⌝ }
-    ensures { λ r. ⌜ (r ≡ at + length (itemBytes (itemBy (now (packet .entry)) item .piece))) × (now (out .exit) ≡ putInto (now (out .entry)) at (itemBytes (itemBy (now (packet .entry)) item .piece))) ⌝ }
+    requires { ⌜ (item .place + item .size ≤ length (now packet)) × Room (now out) at (itemBytes (itemBy (now packet) item .piece)) ⌝ }
+    ensures { λ r. ⌜ Wrote (now (out .entry)) at (itemBytes (itemBy (now (packet .entry)) item .piece)) r (now (out .exit)) ⌝ }
 {
     let size = item.size;
     let from = item.place;
@@ -69,17 +69,17 @@ fn put_item(out: &mut [u8], at: usize, packet: &[u8], item: Header) -> usize
     place + size
 }
 
-// All items, one after another.
-fn put_items(out: &mut [u8], start: usize, packet: &[u8], from: usize)
-    requires { ⌜ ItemsFrom (now packet) from × (start + length (itemsFor (now packet)) ≤ length (now out)) ⌝ }
-    ensures { λ _. ⌜ now (out .exit) ≡ putInto (now (out .entry)) start (itemsFor (now (packet .entry))) ⌝ }
+// All items, one after another, and the place after them.
+fn put_items(out: &mut [u8], start: usize, packet: &[u8], from: usize) -> usize
+    requires { ⌜ ItemsFrom (now packet) from × Room (now out) start (itemsFor (now packet)) ⌝ }
+    ensures { λ r. ⌜ Wrote (now (out .entry)) start (itemsFor (now (packet .entry))) r (now (out .exit)) ⌝ }
 {
     let mut at = start;
     let mut here = from;
     while here < packet.len() {
         match packet::item_at(packet, here) {
             Step::Refused(_) => {
-                return;
+                return at;
             }
             Step::Item(item) => {
                 at = put_item(out, at, packet, item);
@@ -87,12 +87,13 @@ fn put_items(out: &mut [u8], start: usize, packet: &[u8], from: usize)
             }
         }
     }
+    at
 }
 
 // The packet anew: its key, the length and the items in their shortest forms, and the checksum of all before its value.
 fn put_anew(out: &mut [u8], size: usize, items: usize, packet: &[u8], from: usize)
-    requires { ⌜ ItemsFrom (now packet) from × (size ≡ length (canonical (now packet))) × (items ≡ length (itemsFor (now packet))) × (size ≤ length (now out)) ⌝ }
-    ensures { λ _. ⌜ now (out .exit) ≡ putInto (now (out .entry)) 0 (canonical (now (packet .entry))) ⌝ }
+    requires { ⌜ Sendable (now packet) from size items (length (now out)) ⌝ }
+    ensures { λ _. ⌜ Wrote (now (out .entry)) 0 (canonical (now (packet .entry))) size (now (out .exit)) ⌝ }
 {
     spelling::put_text(out, 0, &packet[..16]);
     let start = 16 + ber::put_length(out, 16, items as u64);

@@ -21,8 +21,11 @@ use Rattle.packet.specs.Rows.{valueIn}
 part-inside : (room code spot : ℕ) → partGood room code spot ≡ true → spotPlace spot + spotLength spot ≤ room
 part-inside room code spot g = leb-true _ _ (both-right (eqb code 0) _ g)
 
-part-size : (b : List ℕ) (r : Row) → partGood (length b) (r .code) (r .spot) ≡ true → length (take (spotLength (r .spot)) (drop (spotPlace (r .spot)) b)) ≡ spotLength (r .spot)
-part-size b r g = length-take-le (spotLength (r .spot)) (drop (spotPlace (r .spot)) b) (rw length-drop (omega (arith, part-inside (length b) (r .code) (r .spot) g)))
+part-size : (b : List ℕ) (r : Row) → partGood (length b) (r .code) (r .spot) ≡ true
+    → length (take (spotLength (r .spot)) (drop (spotPlace (r .spot)) b)) ≡ spotLength (r .spot)
+part-size b r g =
+    let h = part-inside (length b) (r .code) (r .spot) g in
+    length-take-le (spotLength (r .spot)) (drop (spotPlace (r .spot)) b) (rw length-drop (omega arith))
 
 number-size : (w : ℕ) (m : Bool) (room : ℕ) (r : Row) → contentGood (Number w m) room r ≡ true → spotLength (r .spot) ≡ w
 number-size w m room r g = eqb-true _ _ (both-left (eqb (spotLength (r .spot)) w) _ g)
@@ -43,7 +46,8 @@ value-size (Number w m) b r g = length-bytesOf w (r .code) ∙ sym (number-size 
 value-size Text b r g = part-size b r g
 value-size Absent b r g = part-size b r g
 
-pub number-value : (s : Shape) (w : ℕ) (m : Bool) (b : List ℕ) (r : Row) → s ≡ Number w m → contentGood s (length b) r ≡ true → bytesOf (spotLength (r .spot)) (r .code) ≡ valueIn s b r
+pub number-value : (s : Shape) (w : ℕ) (m : Bool) (b : List ℕ) (r : Row) → s ≡ Number w m → contentGood s (length b) r ≡ true
+    → bytesOf (spotLength (r .spot)) (r .code) ≡ valueIn s b r
 number-value s w m b r e g = rw e (ap (λ n. bytesOf n (r .code)) (number-size w m (length b) r (rw e at g)))
 
 pub content-good : (s : Shape) (room : ℕ) (r : Row) → rowGood s room r ≡ true → contentGood s room r ≡ true

@@ -6,7 +6,7 @@ ghost use Prim.Native.Nat.{_+_, _≤_};
 ghost use mathlib.Core.List.{_++_};
 ghost use lib.ListN.{length, take, drop};
 ghost use Rattle.number.specs.Stored.{bytesOf};
-ghost use Rattle.base.specs.Putting.{putInto};
+ghost use Rattle.base.specs.Putting.{Room, Wrote};
 ghost use Rattle.ber.specs.Written.{lengthBytes};
 ghost use Rattle.tagset.specs.Sets.{holds};
 ghost use Rattle.rows.specs.Taken.{spotLength, rowGood, contentGood};
@@ -25,7 +25,7 @@ use tagset::TagSet;
 // So many lowest bytes of a number, at a place of the output.
 fn put_number(out: &mut [u8], at: usize, size: usize, x: u64)
     requires { ⌜ at + size ≤ length (now out) ⌝ }
-    ensures { λ _. ⌜ now (out .exit) ≡ putInto (now (out .entry)) at (bytesOf size x) ⌝ }
+    ensures { λ _. ⌜ Wrote (now (out .entry)) at (bytesOf size x) (at + size) (now (out .exit)) ⌝ }
 {
     let end = at + size;
     number::put(&mut out[at..end], x);
@@ -34,7 +34,7 @@ fn put_number(out: &mut [u8], at: usize, size: usize, x: u64)
 // A part of the buffer, at a place of the output.
 fn copy(out: &mut [u8], at: usize, buffer: &[u8], place: usize, size: usize)
     requires { ⌜ (at + size ≤ length (now out)) × (place + size ≤ length (now buffer)) ⌝ }
-    ensures { λ _. ⌜ now (out .exit) ≡ putInto (now (out .entry)) at (take size (drop place (now (buffer .entry)))) ⌝ }
+    ensures { λ _. ⌜ Wrote (now (out .entry)) at (take size (drop place (now (buffer .entry)))) (at + size) (now (out .exit)) ⌝ }
 {
     let mut i = 0;
     while i < size {
@@ -46,7 +46,7 @@ fn copy(out: &mut [u8], at: usize, buffer: &[u8], place: usize, size: usize)
 // A row's value: the bytes of its code, or those that it points at.
 fn put_value(out: &mut [u8], at: usize, shape: Shape, row: RowWords, buffer: &[u8])
     requires { ⌜ (contentGood shape (length (now buffer)) row ≡ true) × (at + spotLength (row .spot) ≤ length (now out)) ⌝ }
-    ensures { λ _. ⌜ now (out .exit) ≡ putInto (now (out .entry)) at (valueIn shape (now (buffer .entry)) row) ⌝ }
+    ensures { λ _. ⌜ Wrote (now (out .entry)) at (valueIn shape (now (buffer .entry)) row) (at + spotLength (row .spot)) (now (out .exit)) ⌝ }
 {
     let spot = row.spot;
     let place = (spot / 65536) as usize;
@@ -63,8 +63,8 @@ fn put_value(out: &mut [u8], at: usize, shape: Shape, row: RowWords, buffer: &[u
 
 // A row's item, and the place after it.
 fn put_item(out: &mut [u8], at: usize, shape: Shape, row: RowWords, buffer: &[u8]) -> usize
-    requires { ⌜ (rowGood shape (length (now buffer)) row ≡ true) × (at + length (rowBytes shape (now buffer) row) ≤ length (now out)) ⌝ }
-    ensures { λ r. ⌜ (r ≡ at + length (rowBytes shape (now (buffer .entry)) row)) × (now (out .exit) ≡ putInto (now (out .entry)) at (rowBytes shape (now (buffer .entry)) row)) ⌝ }
+    requires { ⌜ (rowGood shape (length (now buffer)) row ≡ true) × Room (now out) at (rowBytes shape (now buffer) row) ⌝ }
+    ensures { λ r. ⌜ Wrote (now (out .entry)) at (rowBytes shape (now (buffer .entry)) row) r (now (out .exit)) ⌝ }
 {
     let size = row.spot % 65536;
     let after = at + ber::put_tag(out, at, row.tag);
@@ -73,10 +73,17 @@ fn put_item(out: &mut [u8], at: usize, shape: Shape, row: RowWords, buffer: &[u8
     place + size as usize
 }
 
-// All items, one after another.
-fn put_rows(out: &mut [u8], from: usize, known: TagSet, count: usize, words: &[u64], buffer: &[u8])
-    requires { ⌜ Rows (holds known) (now buffer) count (now words) × (from + length (tableBytes (holds known) (now buffer) count (now words)) ≤ length (now out)) ⌝ }
-    ensures { λ _. ⌜ now (out .exit) ≡ putInto (now (out .entry)) from (tableBytes (holds known) (now (buffer .entry)) count (now (words .entry))) ⌝ }
+// All items, one after another, and the place after them.
+fn put_rows(
+    out: &mut [u8],
+    from: usize,
+    known: TagSet,
+    count: usize,
+    words: &[u64],
+    buffer: &[u8],
+) -> usize
+    requires { ⌜ Rows (holds known) (now buffer) count (now words) × Room (now out) from (tableBytes (holds known) (now buffer) count (now words)) ⌝ }
+    ensures { λ r. ⌜ Wrote (now (out .entry)) from (tableBytes (holds known) (now (buffer .entry)) count (now (words .entry))) r (now (out .exit)) ⌝ }
 {
     let column = catalogue::shapes();
     let mut at = from;
@@ -87,12 +94,13 @@ fn put_rows(out: &mut [u8], from: usize, known: TagSet, count: usize, words: &[u
         at = put_item(out, at, shape, row, buffer);
         n += 1;
     }
+    at
 }
 
 // Key and length, and the place after them.
 fn put_head(out: &mut [u8], items: usize) -> usize
-    requires { ⌜ 16 + length (lengthBytes items) ≤ length (now out) ⌝ }
-    ensures { λ r. ⌜ (r ≡ 16 + length (lengthBytes items)) × (now (out .exit) ≡ putInto (now (out .entry)) 0 (key ++ lengthBytes items)) ⌝ }
+    requires { ⌜ Room (now out) 0 (key ++ lengthBytes items) ⌝ }
+    ensures { λ r. ⌜ Wrote (now (out .entry)) 0 (key ++ lengthBytes items) r (now (out .exit)) ⌝ }
 {
     put_number(out, 0, 8, 0x060E_2B34_020B_0101);
     put_number(out, 8, 8, 0x0E01_0301_0100_0000);
@@ -110,7 +118,7 @@ fn put_packet(
     buffer: &[u8],
 )
     requires { ⌜ Ready (holds known) (now buffer) count (now words) size items (length (now out)) ⌝ }
-    ensures { λ _. ⌜ now (out .exit) ≡ putInto (now (out .entry)) 0 (encode (tablePieces (holds known) (now (buffer .entry)) count (now (words .entry)))) ⌝ }
+    ensures { λ _. ⌜ Wrote (now (out .entry)) 0 (encode (tablePieces (holds known) (now (buffer .entry)) count (now (words .entry)))) size (now (out .exit)) ⌝ }
 {
     let from = put_head(out, items);
     put_rows(out, from, known, count, words, buffer);

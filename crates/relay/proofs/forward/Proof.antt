@@ -2,6 +2,7 @@
 -- Assumes nothing.
 use mathlib.Core.Path.{refl, sym, ap, _∙_}
 use borrow.Author.Needs.{needs}
+use Rattle.number.proofs.Laws.{bytes-lent}
 use Rattle.packet.specs.Concluded.{checkSaid}
 use Rattle.relay.proofs.Sending.{forward-refused, items-from, forward-sent}
 use Rattle.relay.proofs.forward.Statement.{statement}
@@ -17,7 +18,10 @@ enum-known-accepted : tie.Need-enum-known-accepted
 enum-known-accepted c = search needs
 
 send-requires : tie.Need-send-requires
-send-requires c κs = items-from _ _ (record { byte = λ i. c .before .before .before .before .before .before .shared-slice-known .given i .fits }) _ (sym (c .before .before .before .before .check .ensures) ∙ ap checkSaid (c .before .before .accepted .given .1))
+send-requires c κs =
+    let s = c .before .before .before .before in
+    let e = sym (s .check .ensures) ∙ ap checkSaid (c .before .before .accepted .given .1) in
+    items-from _ _ (bytes-lent (s .before .before .shared-slice-known .given)) _ e
 
 returns : tie.Need-returns
 returns c = forward-refused _ _ _ _ _ _ (sym (c .before .before .before .check .ensures) ∙ ap checkSaid (c .before .refusal .given .1)) _ refl
@@ -26,7 +30,10 @@ same-length : tie.Need-same-length
 same-length c = search needs
 
 returns-2 : tie.Need-returns-2
-returns-2 c = forward-sent _ _ (record { byte = λ i. c .before .before .before .before .before .before .before .before .before .shared-slice-known .given i .fits }) _ (sym (c .before .before .before .before .before .before .before .check .ensures) ∙ ap checkSaid (c .before .before .before .before .before .accepted .given .1)) _ _ _ (c .before .before .send .ensures)
+returns-2 c =
+    let s = c .before .before .before .before .before in
+    let e = sym (s .before .before .check .ensures) ∙ ap checkSaid (s .accepted .given .1) in
+    forward-sent _ _ (bytes-lent (s .before .before .before .before .shared-slice-known .given)) _ e _ _ _ (c .before .before .send .ensures)
 
 pub forward-spec : {M : Type 1} → statement M
 forward-spec =

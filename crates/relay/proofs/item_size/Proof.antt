@@ -13,13 +13,21 @@ length-size-requires : tie.Need-length-size-requires
 length-size-requires c κs = search needs
 
 add-result : tie.Need-add-result
-add-result c = omega (arith, item-size (c .before .before .before .args .packet .now) (c .before .before .before .args .item) (c .before .before .before .pre .0), c .before .before .before .pre .1, c .length-size .ensures, c .before .tag-size .ensures)
+add-result c =
+    let s = c .before .before .before in
+    let all = item-size (s .args .packet .now) (s .args .item) (s .pre .0) (c .before .tag-size .ensures) (c .length-size .ensures) in
+    omega (arith, all, s .pre .1)
 
 add-result-2 : tie.Need-add-result-2
-add-result-2 c = omega (arith, item-size (c .before .before .before .args .packet .now) (c .before .before .before .args .item) (c .before .before .before .pre .0), c .before .before .before .pre .1, c .length-size .ensures, c .before .tag-size .ensures)
+add-result-2 c =
+    let s = c .before .before .before in
+    let all = item-size (s .args .packet .now) (s .args .item) (s .pre .0) (c .before .tag-size .ensures) (c .length-size .ensures) in
+    omega (arith, all, s .pre .1)
 
 returns : tie.Need-returns
-returns c = omega (arith, item-size (c .before .before .before .args .packet .now) (c .before .before .before .args .item) (c .before .before .before .pre .0), c .length-size .ensures, c .before .tag-size .ensures)
+returns c =
+    let s = c .before .before .before in
+    item-size (s .args .packet .now) (s .args .item) (s .pre .0) (c .before .tag-size .ensures) (c .length-size .ensures)
 
 pub item-size-spec : {M : Type 1} → statement M
 item-size-spec =

@@ -1,7 +1,7 @@
 -- `writer::put_number` meets its contract.
 -- Assumes nothing.
 use borrow.Author.Needs.{needs}
-use Rattle.ber.proofs.Putting.{number-put}
+use Rattle.ber.proofs.Putting.{number-wrote}
 use Rattle.writer.proofs.put_number.Statement.{statement}
 use Rattle.writer.proofs.put_number.Tie as tie
 
@@ -24,7 +24,7 @@ same-length : tie.Need-same-length
 same-length c = search needs
 
 returns : tie.Need-returns
-returns c = number-put _ _ _ _ (c .before .before .before .before .before .pre) _ (c .before .before .put .ensures)
+returns c = number-wrote _ _ _ _ (c .before .before .before .before .before .pre) _ (c .before .before .put .ensures)
 
 pub put-number-spec : {M : Type 1} → statement M
 put-number-spec =

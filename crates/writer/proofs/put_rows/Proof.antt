@@ -1,24 +1,26 @@
 -- `writer::put_rows` meets its contract.
 -- Assumes nothing.
-use Prim.Native.Nat.{_-_, _≤_}
+use Prim.Native.Nat.{_+_, _-_, _≤_}
 use mathlib.Core.Path.{_≡_, refl, _∙_}
 use native.Mathlib.Omega.{arith}
 use borrow.Author.Needs.{needs}
 use lib.ListN.{length}
 use Rattle.base.specs.Putting.{putInto}
+use Rattle.base.proofs.Putting.{to-write}
 use Rattle.tagset.specs.Sets.{holds}
 use Rattle.catalogue.specs.Column.{shapeColumn}
 use Rattle.packet.specs.Rows.{rowsIn}
+use Rattle.rows.proofs.Laws.{shape-by-column}
 use Rattle.writer.specs.Putting.{tableBytes}
 use Rattle.writer.proofs.Rest.{Left, all-left, table-done, asked, done}
-use Rattle.rows.proofs.Laws.{shape-by-column}
 use Rattle.writer.proofs.put_rows.Statement.{statement}
 use Rattle.writer.proofs.put_rows.Tie as tie
 
 abbrev Inv-loop : tie.InvT-loop
 Inv-loop out₀ from known count words buffer column at₀ n₀ out at n =
     (column ≡ shapeColumn) × (length out ≡ length out₀) × (n ≤ count)
-    × Left (holds known) buffer (rowsIn n (count - n) words) out at (putInto out₀ from (tableBytes (holds known) buffer count words))
+    × Left (holds known) buffer (rowsIn n (count - n) words) out at
+    (from + length (tableBytes (holds known) buffer count words)) (putInto out₀ from (tableBytes (holds known) buffer count words))
 
 abbrev μ-loop : tie.MeasureT-loop
 μ-loop out₀ from known count words buffer column at₀ n₀ out at n = count - n
@@ -27,7 +29,7 @@ shapes-requires : tie.Need-shapes-requires Inv-loop μ-loop
 shapes-requires c κs = search needs
 
 loop-holds : tie.Need-loop-holds Inv-loop μ-loop
-loop-holds c = (c .shapes .ensures, refl, omega arith, all-left _ _ _ _ _ _ (c .before .before .before .before .pre .0 .good) (c .before .before .before .before .pre .1))
+loop-holds c = let s = c .before .before .before .before in (c .shapes .ensures, refl, omega arith, all-left _ _ (s .pre .0 .good) (s .pre .1))
 
 row-at-requires : tie.Need-row-at-requires Inv-loop μ-loop
 row-at-requires c κs = search needs
@@ -37,22 +39,37 @@ shape-for-requires c κs = search needs
 
 put-item-requires : tie.Need-put-item-requires Inv-loop μ-loop
 put-item-requires c κs =
-    asked _ _ _ _ _ _ _ _ (c .before .before .before .before .before .loop .inv .3) (c .before .before .before .before .loop-test .taken) _ _ (c .before .before .before .row-at .ensures) (c .before .shape-for .ensures ∙ shape-by-column _ _ _ (c .before .before .before .before .before .loop .inv .0))
+    let l = c .before .before .before .before .before .loop in
+    let shape = c .before .shape-for .ensures ∙ shape-by-column _ _ _ (l .inv .0) in
+    asked _ _ _ (l .inv .3) (c .before .before .before .before .loop-test .taken) (c .before .before .before .row-at .ensures) shape
 
 add-n : tie.Need-add-n Inv-loop μ-loop
-add-n c = omega (arith, c .before .before .before .before .before .before .before .loop-test .taken, c .before .before .before .before .before .before .before .before .before .before .before .before .before .pre .0 .few)
+add-n c =
+    let s = c .before .before .before .before .before .before .before in
+    omega (arith, s .loop-test .taken, s .before .before .before .before .before .before .pre .0 .few)
 
 loop-less : tie.Need-loop-less Inv-loop μ-loop
 loop-less c = omega (arith, c .before .before .before .before .before .before .before .loop-test .taken)
 
 loop-again : tie.Need-loop-again Inv-loop μ-loop
-loop-again c = (c .before .before .before .before .before .before .before .before .loop .inv .0, c .before .before .put-item .kept .0 ∙ c .before .before .before .before .before .before .before .before .loop .inv .1, omega (arith, c .before .before .before .before .before .before .before .loop-test .taken), done _ _ _ _ _ _ _ _ (c .before .before .before .before .before .before .before .before .loop .inv .3) (c .before .before .before .before .before .before .before .loop-test .taken) _ _ (c .before .before .before .before .before .before .row-at .ensures) (c .before .before .before .before .shape-for .ensures ∙ shape-by-column _ _ _ (c .before .before .before .before .before .before .before .before .loop .inv .0)) _ _ (c .before .before .put-item .ensures))
+loop-again c =
+    let s = c .before .before .before .before .before .before .before in
+    let l = s .before .loop in
+    let row = c .before .before .before .before .before .before .row-at .ensures in
+    let shape = c .before .before .before .before .shape-for .ensures ∙ shape-by-column _ _ _ (l .inv .0) in (
+      l .inv .0,
+      c .before .before .put-item .kept .0 ∙ l .inv .1,
+      omega (arith, s .loop-test .taken),
+      done _ _ _ (l .inv .3) (s .loop-test .taken) row shape (c .before .before .put-item .ensures),
+    )
 
 same-length : tie.Need-same-length Inv-loop μ-loop
 same-length c = c .before .loop .inv .1
 
 returns : tie.Need-returns Inv-loop μ-loop
-returns c = table-done _ _ _ _ _ _ _ _ (c .before .loop .inv .3) (c .loop-test .left)
+returns c =
+    let all = table-done _ _ _ (c .before .loop .inv .3) (c .loop-test .left) in
+    rw (← all .0, ← all .1) (to-write (c .before .before .before .before .before .before .pre .1))
 
 pub put-rows-spec : {M : Type 1} → statement M
 put-rows-spec =

@@ -1,8 +1,7 @@
 -- `writer::put_value` meets its contract.
 -- Assumes nothing.
 use borrow.Author.Needs.{needs}
-use mathlib.Core.Path.{ap, _∙_}
-use Rattle.base.specs.Putting.{putInto}
+use Rattle.base.proofs.Putting.{wrote-as}
 use Rattle.writer.proofs.Values.{inside, number-value}
 use Rattle.writer.proofs.put_value.Statement.{statement}
 use Rattle.writer.proofs.put_value.Tie as tie
@@ -17,19 +16,25 @@ enum-told-2 : tie.Need-enum-told-2
 enum-told-2 c = search needs
 
 copy-requires : tie.Need-copy-requires
-copy-requires c κs = (c .before .before .before .before .before .pre .1, inside _ _ (c .before .before .before .before .before .args .buffer .now) (c .before .before .before .before .before .args .row) (c .before .enum-told2 .given .1) (c .before .before .before .before .before .pre .0))
+copy-requires c κs =
+    let s = c .before .before .before .before .before in
+    (s .pre .1, inside _ _ (s .args .buffer .now) (s .args .row) (c .before .enum-told2 .given .1) (s .pre .0))
 
 enum-told-3 : tie.Need-enum-told-3
 enum-told-3 c = search needs
 
 copy-requires-2 : tie.Need-copy-requires-2
-copy-requires-2 c κs = (c .before .before .before .before .before .pre .1, inside _ _ (c .before .before .before .before .before .args .buffer .now) (c .before .before .before .before .before .args .row) (c .before .enum-told3 .given .1) (c .before .before .before .before .before .pre .0))
+copy-requires-2 c κs =
+    let s = c .before .before .before .before .before in
+    (s .pre .1, inside _ _ (s .args .buffer .now) (s .args .row) (c .before .enum-told3 .given .1) (s .pre .0))
 
 same-length : tie.Need-same-length
 same-length c = search needs
 
 returns : tie.Need-returns
-returns c = c .before .before .put-number .ensures ∙ ap (putInto _ _) (number-value _ _ _ _ _ (c .before .before .before .before .enum-told .given .1) (c .before .before .before .before .before .before .before .before .pre .0))
+returns c =
+    let s = c .before .before .before .before in
+    wrote-as (number-value _ _ _ _ _ (s .enum-told .given .1) (s .before .before .before .before .pre .0)) (c .before .before .put-number .ensures)
 
 same-length-2 : tie.Need-same-length-2
 same-length-2 c = search needs

@@ -1,8 +1,7 @@
 -- `writer::write` meets its contract.
 -- Assumes nothing.
 use borrow.Author.Needs.{needs}
-use mathlib.Core.Path.{refl, sym, ap, _∙_}
-use Rattle.outgoing.specs.Staged.{outgoingSaid}
+use mathlib.Core.Path.{refl}
 use Rattle.writer.proofs.Answers.{rows-refused, fit, too-short, ready, packet-written}
 use Rattle.writer.proofs.write.Statement.{statement}
 use Rattle.writer.proofs.write.Tie as tie
@@ -17,19 +16,24 @@ enum-known-packed : tie.Need-enum-known-packed
 enum-known-packed c = search needs
 
 returns : tie.Need-returns
-returns c = too-short _ _ _ _ _ _ (fit _ _ _ _ _ _ (sym (c .before .before .before .before .check-rows .ensures) ∙ ap outgoingSaid (c .before .before .packed .given .1))) (c .if1 .taken) _ refl
+returns c = too-short (fit (c .before .before .before .before .check-rows .ensures) (c .before .before .packed .given .1)) (c .if1 .taken) refl
 
 put-packet-requires : tie.Need-put-packet-requires
-put-packet-requires c κs = ready _ _ _ _ (c .before .before .before .before .before .before .before .before .before .args .out .now) _ (fit _ _ _ _ _ _ (sym (c .before .before .before .before .before .check-rows .ensures) ∙ ap outgoingSaid (c .before .before .before .packed .given .1))) (c .before .if1 .left)
+put-packet-requires c κs =
+    let s = c .before .before .before in
+    ready (fit (s .before .before .check-rows .ensures) (s .packed .given .1)) (c .before .if1 .left)
 
 returns-2 : tie.Need-returns-2
-returns-2 c = rows-refused _ _ _ _ _ _ _ _ (sym (c .before .before .before .check-rows .ensures) ∙ ap outgoingSaid (c .before .refusal .given .1)) _ refl
+returns-2 c = rows-refused (c .before .before .before .check-rows .ensures) (c .before .refusal .given .1)
 
 same-length : tie.Need-same-length
 same-length c = search needs
 
 returns-3 : tie.Need-returns-3
-returns-3 c = packet-written _ _ _ _ _ _ (fit _ _ _ _ _ _ (sym (c .before .before .before .before .before .before .before .before .check-rows .ensures) ∙ ap outgoingSaid (c .before .before .before .before .before .before .packed .given .1))) (c .before .before .before .before .if1 .left) _ (c .before .before .put-packet .ensures)
+returns-3 c =
+    let s = c .before .before .before .before .before .before in
+    let f = fit (s .before .before .check-rows .ensures) (s .packed .given .1) in
+    packet-written f (c .before .before .before .before .if1 .left) (c .before .before .put-packet .ensures)
 
 pub write-spec : {M : Type 1} → statement M
 write-spec =
