@@ -5,35 +5,36 @@ use native.Mathlib.Omega.{arith}
 use mathlib.Core.Path.{_≡_, refl, ap, sym, _∙_}
 use mathlib.Core.List.{List}
 use lib.ListN.{length, drop, length-append}
-use lib.Dec.{ltb, eqb, leb}
-use borrow.Author.Tests.{le-leb, eq-eqb}
-use Rattle.base.specs.Cases.{byBool, never}
+use lib.Dec.{ltb, leb}
+use borrow.Author.Tests.{le-leb}
+use Rattle.base.specs.Cases.{byBool}
 use Rattle.base.specs.Every.{both-true}
-use Rattle.refusal.specs.Answer.{Answer, given, refused}
+use Rattle.refusal.specs.Answer.{given, refused, map}
+use Rattle.refusal.proofs.Answers.{passed, map-given, map-refused}
 use Rattle.number.specs.Stored.{Bytes}
 use Rattle.tagset.specs.Sets.{holds}
 use Rattle.tagset.specs.declared.TagSet.{TagSet}
 use Rattle.knowing.specs.Good.{good}
 use Rattle.packet.specs.Pieces.{Item, pieces, walk}
 use Rattle.packet.specs.Judge.{Knowing}
-use Rattle.packet.specs.Verdict.{accepted, bodyOf, verdict, received, checked, counted}
+use Rattle.packet.specs.Verdict.{bodyOf, verdict, received, checked}
 use Rattle.packet.specs.Encode.{encode, canonical}
 use Rattle.packet.specs.Allowed.{Formed}
-use Rattle.packet.specs.Rows.{rowsIn, rowsOf, tableOf, piecesOf, lentVerdict, readAnswer, readTable}
+use Rattle.packet.specs.Rows.{rowsIn, rowsOf, tableOf, piecesOf, lentVerdict, Filled, filledBy, readAnswer, readTable}
 use Rattle.packet.specs.declared.Accepted.{Accepted}
 use Rattle.packet.proofs.Accepting.{accepting}
 use Rattle.laws.proofs.Accepted.{Accepts, accepts}
-use Rattle.laws.proofs.Structure.{passed, structure-formed}
+use Rattle.laws.proofs.Structure.{structure-formed}
 use Rattle.laws.proofs.Written.{Sendable}
 use Rattle.laws.proofs.Forward.{sendable, canonical-is}
 use Rattle.laws.proofs.Rows.{rows-good}
 use Rattle.laws.proofs.Sent.{rows-pieces}
-use Rattle.laws.proofs.Tables.{HasRead, has-read, rows-in-table}
+use Rattle.laws.proofs.Tables.{HasRead, has-read, read-count, rows-in-table}
 use Rattle.reader.proofs.Laws.{words-length}
 use Rattle.outgoing.specs.Outgoing.{outgoing}
 use Rattle.outgoing.proofs.Given.{Sent, Outgoes, outgoes-given}
 use Rattle.writer.specs.Writes.{written, writeAnswer, writeOutput}
-use Rattle.relay.specs.Forwards.{Forwards, ownTable, answerAfter, outputAfter, forwardAnswer, forwardOutput, forwardSaid}
+use Rattle.relay.specs.Forwards.{Forwards, ownTable, forwardAnswer, forwardOutput, forwardSaid}
 use Rattle.relay.specs.Sends.{ItemsFrom, sentAnswer, sentOutput, Sends}
 use Rattle.relay.specs.declared.Forwarding.{Forwarding}
 
@@ -52,18 +53,22 @@ all-sent K p is by a =
         front = s .front;
         last = s .last;
         parts = s .closes;
-        checksum = both-true (eqb (s .last .tag) 1) (eqb (length (s .last .value)) 2) (eq-eqb _ _ (s .checksum)) (eq-eqb _ _ (s .pair));
+        checksum = s .checksum;
+        pair = s .pair;
       };
       faultless = a .faultless;
     }
 
 -- a table that a reader made of a packet
-module _ (K : TagSet) (p t : List ℕ) (n : ℕ) (by : Bytes p) (e : readAnswer K p t ≡ given n) where
-  was-read : HasRead K p t n
-  was-read = has-read K p t n e
+module _ (K : TagSet) (p t : List ℕ) (done : Filled) (by : Bytes p) (e : readAnswer K p t ≡ given done) where
+  abbrev n : ℕ
+  n = done .count
+
+  was-read : HasRead K p t done
+  was-read = has-read K p t done e
 
   its-rows : rowsIn 0 n (readTable K p t) ≡ rowsOf (holds K) (was-read .items)
-  its-rows = ap (rowsIn 0 n) (was-read .table) ∙ rows-in-table (holds K) (was-read .items) t n (was-read .count)
+  its-rows = ap (rowsIn 0 n) (was-read .table) ∙ rows-in-table (holds K) (was-read .items) t n (read-count was-read)
 
   its-pieces : piecesOf (holds K) p (rowsIn 0 n (readTable K p t)) ≡ pieces (was-read .items)
   its-pieces = ap (piecesOf (holds K) p) its-rows ∙ rows-pieces (holds K) p (was-read .items) by (was-read .accepted)
@@ -72,8 +77,8 @@ module _ (K : TagSet) (p t : List ℕ) (n : ℕ) (by : Bytes p) (e : readAnswer 
   goes-out =
       let a : Accepts (holds K) p (was-read .items) = accepts (holds K) p (was-read .items) (was-read .accepted) in
       let f : Formed p (was-read .items) = structure-formed p (was-read .items) by (a .found) in
-      let long : 4 * n ≤ length (readTable K p t) = rw (was-read .table) (omega (arith, was-read .count, table-long (holds K) (was-read .items) t)) in
-      let few : n ≤ 128 = omega (arith, f .few, was-read .count) in
+      let long : 4 * n ≤ length (readTable K p t) = rw (was-read .table) (omega (arith, read-count was-read, table-long (holds K) (was-read .items) t)) in
+      let few : n ≤ 128 = omega (arith, f .few, read-count was-read) in
       record {
         knows = was-read .right;
         counted = both-true (leb n 128) (leb (4 * n) (length (readTable K p t))) (le-leb n 128 few) (le-leb _ _ long);
@@ -88,8 +93,8 @@ module _ (K : TagSet) (p t : List ℕ) (n : ℕ) (by : Bytes p) (e : readAnswer 
   canonical-of = canonical-is p (was-read .items) by (accepts (holds K) p (was-read .items) (was-read .accepted) .found)
 
   -- written with the packet as buffer: sent where there is room
-  pub write-sends : (o : List ℕ) → (writeAnswer K n (readTable K p t) p o ≡ sentAnswer (canonical p) o)
-      × (writeOutput K n (readTable K p t) p o ≡ sentOutput (canonical p) o)
+  pub write-sends : (o : List ℕ) → (writeAnswer K (done .count) (readTable K p t) p o ≡ sentAnswer (canonical p) o)
+      × (writeOutput K (done .count) (readTable K p t) p o ≡ sentOutput (canonical p) o)
   unfolding writeAnswer writeOutput written
   write-sends o =
       rw (goes-as, canonical-of)
@@ -104,28 +109,20 @@ module _ (K : TagSet) (p : List ℕ) where
   pub forward-refused : (o : List ℕ) (n a u : ℕ) → checked K p ≡ refused n a u → (r : Forwarding) → forwardSaid r ≡ refused n a u → Forwards K p o r o
   unfolding checked readAnswer forwardAnswer forwardOutput
   forward-refused o n a u e r s =
-      let f : readAnswer K p ownTable ≡ refused n a u = ap counted (own-received ∙ go (received K p) e) in
-      record { answer = s ∙ sym (ap (answerAfter K p o) f); output = sym (ap (outputAfter K p o) f) }
-    where
-      go : (x : Answer (List Item)) → accepted x ≡ refused n a u → x ≡ refused n a u
-      go (given is) f = never (cc)
-      go (refused m b v) f = cc
+      let f : readAnswer K p ownTable ≡ refused n a u = ap (map filledBy) (own-received ∙ map-refused bodyOf (received K p) n a u e) in
+      record { answer = s ∙ sym (rw f); output = sym (rw f) }
 
   module _ (by : Bytes p) where
-    pub forward-is : (o : List ℕ) (n : ℕ) → readAnswer K p ownTable ≡ given n → (forwardAnswer K p o ≡ sentAnswer (canonical p) o)
+    pub forward-is : (o : List ℕ) (done : Filled) → readAnswer K p ownTable ≡ given done → (forwardAnswer K p o ≡ sentAnswer (canonical p) o)
         × (forwardOutput K p o ≡ sentOutput (canonical p) o)
     unfolding forwardAnswer forwardOutput
-    forward-is o n e = rw e (write-sends K p ownTable n by e o)
+    forward-is o done e = rw e (write-sends K p ownTable done by e o)
 
     -- a packet that the check accepts
     module _ (b : Accepted) (e : checked K p ≡ given b) where
-      taken : (is : List Item) × (received K p ≡ given is) × (b ≡ bodyOf is)
+      taken : (is : List Item) × (received K p ≡ given is) × (bodyOf is ≡ b)
       unfolding checked
-      taken = go (received K p) refl e
-        where
-          go : (x : Answer (List Item)) → received K p ≡ x → accepted x ≡ given b → (is : List Item) × (received K p ≡ given is) × (b ≡ bodyOf is)
-          go (given is) f g = (is, f, cc)
-          go (refused m c v) f g = never (cc)
+      taken = map-given bodyOf (received K p) e
 
       pub items-from : ItemsFrom p (b .from)
       unfolding received
@@ -134,11 +131,11 @@ module _ (K : TagSet) (p : List ℕ) where
           record {
             items = taken .0;
             found = accepts (holds K) p (taken .0) (v .1) .found;
-            walked = ap (λ (x : Accepted). walk 128 (x .from) (drop (x .from) p)) (taken .2) ∙ accepting K p (taken .0) by (taken .1) .fills;
+            walked = ap (λ (x : Accepted). walk 128 (x .from) (drop (x .from) p)) (sym (taken .2)) ∙ accepting K p (taken .0) by (taken .1) .fills;
           }
 
       pub forward-sent : (o : List ℕ) (r : Forwarding) (o′ : List ℕ) → Sends (canonical p) o r o′ → Forwards K p o r o′
       unfolding readAnswer
       forward-sent o r o′ s =
-          let f = forward-is o (length (taken .0)) (ap counted (own-received ∙ taken .1)) in
+          let f = forward-is o (filledBy (taken .0)) (ap (map filledBy) (own-received ∙ taken .1)) in
           record { answer = s .answer ∙ sym (f .0); output = s .output ∙ sym (f .1) }

@@ -9,6 +9,7 @@ use Rattle.refusal.specs.Answer.{Answer, given, refused}
 use Rattle.packet.specs.Pieces.{Item, walk}
 use Rattle.packet.specs.Structure.{structure}
 use Rattle.packet.specs.Encode.{piecesIn, itemsBytes, canonical}
+use Rattle.writer.specs.declared.Written.{Written}
 use Rattle.relay.specs.Forwards.{forwardSaid}
 use Rattle.relay.specs.declared.Forwarding.{Forwarding}
 
@@ -30,8 +31,8 @@ pub record Sendable (p : List ℕ) (from size items room : ℕ) : Type 0 where
   pub fits : size ≤ room
 
 -- bytes q sent: their number, or 18
-abbrev pub sentAnswer : List ℕ → List ℕ → Answer ℕ
-sentAnswer q o = cond (ltb (length o) (length q)) (refused 18 0 0) (given (length q))
+abbrev pub sentAnswer : List ℕ → List ℕ → Answer Written
+sentAnswer q o = cond (ltb (length o) (length q)) (refused 18 0 0) (given (record { size = length q }))
 
 -- at the front of the output, where there is room for them
 abbrev pub sentOutput : List ℕ → List ℕ → List ℕ

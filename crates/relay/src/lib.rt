@@ -14,14 +14,10 @@ use packet::Step;
 use refusal::Reason;
 use refusal::Refusal;
 use tagset::TagSet;
-
-// A packet sent on: how many bytes of the output it takes.
-pub struct Sent {
-    pub size: usize,
-}
+use writer::Written;
 
 pub enum Forwarding {
-    Packet(Sent),
+    Packet(Written),
     Refused(Refusal),
 }
 
@@ -123,7 +119,7 @@ fn send(packet: &[u8], from: usize, out: &mut [u8]) -> Forwarding
     } else {
         put_anew(out, size, items, packet, from);
     }
-    Forwarding::Packet(Sent { size })
+    Forwarding::Packet(Written { size })
 }
 
 // Sends a packet on, in its shortest form. A refusal leaves the output as it was.
