@@ -18,7 +18,7 @@ use Rattle.tagset.specs.Sets.{holds}
 use Rattle.tagset.specs.declared.TagSet.{TagSet}
 use Rattle.catalogue.specs.Rows.{allTags}
 use Rattle.knowing.specs.Good.{good}
-use Rattle.rows.specs.Kinds.{Row}
+use Rattle.rows.specs.Meaning.{Row}
 use Rattle.packet.specs.Pieces.{Item}
 use Rattle.packet.specs.Judge.{Knowing}
 use Rattle.packet.specs.Allowed.{Formed}
@@ -26,12 +26,12 @@ use Rattle.packet.specs.Verdict.{received}
 use Rattle.packet.specs.Rows.{rowOf, rowsOf, rowsIn}
 use Rattle.laws.proofs.Accepted.{accepted-allowed}
 use Rattle.laws.proofs.Sent.{Lies, formed-lie}
-use Rattle.laws.proofs.Structure.{passed}
+use Rattle.refusal.proofs.Answers.{passed}
 use Rattle.laws.proofs.Tables.{Received, has-received, received-refused}
 use Rattle.reader.specs.Reads.{Reads, readSaid}
 use Rattle.reader.specs.declared.Reading.{Reading}
 use Rattle.reader.specs.declared.Reading.the-variants as reading
-use Rattle.reader.specs.declared.Filled.{Filled}
+use Rattle.rows.specs.declared.Filled.{Filled}
 use Rattle.spelling.specs.Spelling.{decimal}
 use Rattle.listing.specs.Lines.{header, field, linesOf, refusedWord, refusedLine}
 use Rattle.listing.specs.Listing.{textBy, listingOf}
@@ -81,8 +81,8 @@ module _ {K : TagSet} (k : K ≡ allTags) {p : List ℕ} {r : Reading} {t : List
       ap (textBy p) (sym q)
 
   module _ {x : Filled} (e : r ≡ reading.Rows x) where
-    read : Received allTags p (replicate 512 0) (x .count)
-    read = has-received allTags p (replicate 512 0) (x .count) (sym (d .answer) ∙ ap readSaid e)
+    read : Received allTags p (replicate 512 0) x
+    read = has-received allTags p (replicate 512 0) x (sym (d .answer) ∙ ap readSaid e)
 
     same-rows : rowsIn 0 (x .count) t ≡ rowsOf (holds allTags) (read .items)
     same-rows = ap (rowsIn 0 (x .count)) (d .table) ∙ read .rows

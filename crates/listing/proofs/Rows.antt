@@ -9,7 +9,7 @@ use lib.ListN.{length, length-append}
 use Rattle.base.specs.Every.{Each}
 use Rattle.base.specs.Putting.{putInto, Room, Wrote}
 use Rattle.base.proofs.Putting.{to-write, wrote-room, room-first, wrote-rest, wrote-nothing}
-use Rattle.rows.specs.Kinds.{Row}
+use Rattle.rows.specs.Meaning.{Row}
 use Rattle.rows.specs.Taken.{rowAt}
 use Rattle.packet.specs.Rows.{rowsIn}
 use Rattle.laws.proofs.Tables.{rows-from, rows-none}

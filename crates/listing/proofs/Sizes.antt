@@ -6,17 +6,17 @@ use mathlib.Core.Path.{_≡_, refl, ap}
 use mathlib.Core.List.{List, [], _∷_}
 use lib.ListN.{length, length-append, length-take}
 use lib.Arith.{digits-div}
-use lib.Dec.{eqb}
 use lib.IntN.{ℤ, pos, negsuc}
-use Rattle.base.specs.Cases.{byBool}
+use Rattle.base.specs.Cases.{byEq}
 use Rattle.base.specs.Every.{Each}
 use Rattle.refusal.specs.Answer.{Answer, given, refused}
 use Rattle.number.specs.Stored.{Bytes}
 use Rattle.tagset.specs.Sets.{holds}
 use Rattle.catalogue.specs.Rows.{allTags}
 use Rattle.knowing.specs.Good.{good}
-use Rattle.rows.specs.Kinds.{Row}
-use Rattle.rows.specs.Taken.{spotPlace, spotLength}
+use Rattle.rows.specs.Meaning.{Row}
+use Rattle.rows.specs.Taken.{spotPlace, spotLength, partOf}
+use Rattle.rows.proofs.Laws.{says-carried}
 use Rattle.packet.specs.Pieces.{Item, pieces}
 use Rattle.packet.specs.Judge.{Knowing}
 use Rattle.packet.specs.Allowed.{ItemsOf, noMore, another, Formed}
@@ -24,7 +24,7 @@ use Rattle.packet.specs.Verdict.{received}
 use Rattle.packet.specs.Rows.{rowOf, rowsOf, bytesAt}
 use Rattle.scale.specs.Conversions.{toHouse}
 use Rattle.scale.specs.declared.House.{House}
-use Rattle.laws.proofs.Structure.{passed}
+use Rattle.refusal.proofs.Answers.{passed}
 use Rattle.laws.proofs.Accepted.{accepted-allowed}
 use Rattle.laws.proofs.Written.{Tagged}
 use Rattle.laws.proofs.Forward.{items-tagged}
@@ -56,13 +56,13 @@ number-most (refused n p t) code = omega (arith, decimal-few code)
 content-short : (p : List ℕ) (r : Row) → length (contentText p r) ≤ 28 + 2 * length (bytesAt p r)
 unfolding contentText numberWord markWord textWord carriedWord
 content-short p r =
-    byBool (eqb (r .kind) 1)
+    byEq (r .kind) 1
     (λ e. rw (e, length-append) (omega (arith, number-most (toHouse (r .tag) (r .code)) (r .code))))
-    (λ e. byBool (eqb (r .kind) 2)
-    (λ f. rw (e, f) (omega arith))
-    (λ f. byBool (eqb (r .kind) 3)
-    (λ g. rw (e, f, g, length-append) (omega (arith, hex-length (bytesAt p r))))
-    (λ g. rw (e, f, g, length-append) (omega (arith, hex-length (bytesAt p r))))))
+    (λ e. byEq (r .kind) 2
+    (λ f. rw f (omega arith))
+    (λ f. byEq (r .kind) 3
+    (λ g. rw (g, length-append) (omega (arith, hex-length (bytesAt p r))))
+    (λ g. rw (says-carried (r .kind) (r .code) (spotLength (r .spot)) (partOf (r .spot)) e f g, length-append) (omega (arith, hex-length (bytesAt p r))))))
 
 content-most : (p : List ℕ) (r : Row) → length (contentText p r) ≤ 131098
 content-most p r =

@@ -6,13 +6,14 @@ use mathlib.Core.Path.{_≡_, sym, ap, _∙_}
 use mathlib.Core.List.{List, _++_}
 use lib.ListN.{length, take, drop, length-drop, length-append}
 use lib.Seq.{length-take-le}
-use borrow.Author.Tests.{eq-eqb, ne-eqb}
 use mir.Syntax.{w64}
 use mir.Val.{SFits, toZ, ofZ}
 use mir.Facts.{toZ-ofZ}
 use Rattle.base.specs.Parts.{part-lent}
-use Rattle.rows.specs.Kinds.{Row}
-use Rattle.rows.specs.Taken.{spotPlace, spotLength}
+use Rattle.rows.specs.Meaning.{Meaning, mapMeaning, Row}
+use Rattle.rows.specs.Taken.{spotPlace, spotLength, rowSays}
+use Rattle.rows.specs.declared.Part.{Part}
+use Rattle.rows.proofs.Laws.{says-reading, says-mark, says-text, says-carried}
 use Rattle.packet.specs.Rows.{bytesAt}
 use Rattle.scale.specs.Conversions.{toHouse}
 use Rattle.scale.specs.Said.{houseSaid}
@@ -21,7 +22,7 @@ use Rattle.scale.specs.declared.ToHouse.{ToHouse}
 use Rattle.scale.specs.declared.ToHouse.the-variants.{Is}
 use Rattle.spelling.specs.Spelling.{decimal, whole, hex}
 use Rattle.spelling.proofs.Laws.{hex-length}
-use Rattle.listing.specs.Lines.{numberWord, markWord, textWord, carriedWord, field, numberText, contentText, lineOf}
+use Rattle.listing.specs.Lines.{numberWord, markWord, textWord, carriedWord, field, numberText, meaningText, bytesIn, contentText, lineOf}
 use Rattle.listing.specs.Lists.{InPacket}
 
 -- a reading, by what the conversion answers
@@ -38,9 +39,13 @@ module _ (p : List ℕ) (r : Row) where
   pub value-lent : hex (take (spotPlace (r .spot) + spotLength (r .spot) - spotPlace (r .spot)) (drop (spotPlace (r .spot)) p)) ≡ hex (bytesAt p r)
   value-lent = ap hex (part-lent p (spotPlace (r .spot)) (spotLength (r .spot)))
 
-  pub number-content : r .kind ≡ 1 → numberWord ++ numberText (toHouse (r .tag) (r .code)) (r .code) ≡ contentText p r
+  -- by what the row says
+  by-saying : {m : Meaning Part} → rowSays r ≡ m → meaningText (r .tag) (mapMeaning (bytesIn p) m) ≡ contentText p r
   unfolding contentText
-  number-content e = rw (eq-eqb _ _ e)
+  by-saying e = sym (ap (λ m. meaningText (r .tag) (mapMeaning (bytesIn p) m)) e)
+
+  pub number-content : r .kind ≡ 1 → numberWord ++ numberText (toHouse (r .tag) (r .code)) (r .code) ≡ contentText p r
+  number-content e = by-saying (says-reading _ _ _ _ e)
 
   pub number-length : r .kind ≡ 1 → 7 + length (numberText (toHouse (r .tag) (r .code)) (r .code)) ≡ length (contentText p r)
   unfolding numberWord
@@ -48,8 +53,7 @@ module _ (p : List ℕ) (r : Row) where
 
   module _ (n : r .kind ≡ 1 → ⊥) where
     pub mark-content : r .kind ≡ 2 → markWord ≡ contentText p r
-    unfolding contentText
-    mark-content e = rw (ne-eqb _ _ n, eq-eqb _ _ e)
+    mark-content e = by-saying (says-mark _ _ _ _ n e)
 
     pub mark-length : r .kind ≡ 2 → 6 ≡ length (contentText p r)
     unfolding markWord
@@ -57,12 +61,10 @@ module _ (p : List ℕ) (r : Row) where
 
     module _ (m : r .kind ≡ 2 → ⊥) where
       pub text-content : r .kind ≡ 3 → textWord ++ hex (bytesAt p r) ≡ contentText p r
-      unfolding contentText
-      text-content e = rw (ne-eqb _ _ n, ne-eqb _ _ m, eq-eqb _ _ e)
+      text-content e = by-saying (says-text _ _ _ _ n m e)
 
       pub carried-content : (r .kind ≡ 3 → ⊥) → carriedWord ++ hex (bytesAt p r) ≡ contentText p r
-      unfolding contentText
-      carried-content k = rw (ne-eqb _ _ n, ne-eqb _ _ m, ne-eqb _ _ k)
+      carried-content k = by-saying (says-carried _ _ _ _ n m k)
 
       module _ (h : InPacket p r) where
         bytes-length : length (hex (bytesAt p r)) ≡ 2 * spotLength (r .spot)

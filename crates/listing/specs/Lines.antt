@@ -1,12 +1,11 @@
 -- Document 01, Worked values: the lines that the listing program prints, "fields parted by tabs".
 use Prim.Native.Nat.{ℕ}
-use mathlib.Core.Bool.{cond}
 use mathlib.Core.List.{List, [], _∷_, _++_}
-use lib.Dec.{eqb}
+use lib.ListN.{take, drop}
 use Rattle.refusal.specs.Answer.{Answer, given, refused}
-use Rattle.rows.specs.Kinds.{Row}
-use Rattle.rows.specs.Taken.{spotPlace}
-use Rattle.packet.specs.Rows.{bytesAt}
+use Rattle.rows.specs.Meaning.{Meaning, reading, mark, text, carried, mapMeaning, Row}
+use Rattle.rows.specs.Taken.{spotPlace, rowSays}
+use Rattle.rows.specs.declared.Part.{Part}
 use Rattle.scale.specs.Conversions.{toHouse}
 use Rattle.scale.specs.declared.House.{House}
 use Rattle.spelling.specs.Spelling.{decimal, whole, hex}
@@ -48,12 +47,18 @@ numberText (given h) code = whole (h .value)
 numberText (refused n p t) code = decimal code
 
 -- kind and value: "a mark prints "-"; text and carried print upper-case hex, nothing if empty"
+abbrev pub meaningText : ℕ → Meaning (List ℕ) → List ℕ
+meaningText tag (reading code size) = numberWord ++ numberText (toHouse tag code) code
+meaningText tag (mark code size) = markWord
+meaningText tag (text bytes) = textWord ++ hex bytes
+meaningText tag (carried bytes) = carriedWord ++ hex bytes
+
+-- text and carried bytes as they stand in the packet
+abbrev pub bytesIn : List ℕ → Part → List ℕ
+bytesIn p part = take (part .length) (drop (part .place) p)
+
 unfoldable pub contentText : List ℕ → Row → List ℕ
-contentText p r =
-    cond (eqb (r .kind) 1) (numberWord ++ numberText (toHouse (r .tag) (r .code)) (r .code))
-    (cond (eqb (r .kind) 2) markWord
-    (cond (eqb (r .kind) 3) (textWord ++ hex (bytesAt p r))
-    (carriedWord ++ hex (bytesAt p r))))
+contentText p r = meaningText (r .tag) (mapMeaning (bytesIn p) (rowSays r))
 
 -- "Place is the value's."
 unfoldable pub lineOf : List ℕ → Row → List ℕ

@@ -8,7 +8,7 @@ use lib.Dec.{ltb}
 use Rattle.base.specs.Every.{Each}
 use Rattle.base.specs.Putting.{putInto}
 use Rattle.refusal.specs.Answer.{Answer, given, refused, refusal}
-use Rattle.rows.specs.Kinds.{Row}
+use Rattle.rows.specs.Meaning.{Row}
 use Rattle.rows.specs.Taken.{spotPlace, spotLength}
 use Rattle.listing.specs.Lines.{linesOf}
 use Rattle.listing.specs.declared.Listing.{Listing}

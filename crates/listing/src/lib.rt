@@ -47,13 +47,13 @@ fn content_size(packet: &[u8], row: RowWords) -> usize
     ensures { λ r. ⌜ r ≡ length (contentText (now (packet .entry)) row) ⌝ }
 {
     let bytes = (row.spot % 65536) as usize;
-    if row.kind == 1 {
+    if row.kind == rows::READING {
         return 7 + number_size(row.tag, row.code);
     }
-    if row.kind == 2 {
+    if row.kind == rows::MARK {
         return 6;
     }
-    if row.kind == 3 {
+    if row.kind == rows::TEXT {
         return 5 + 2 * bytes;
     }
     8 + 2 * bytes
@@ -133,14 +133,14 @@ fn put_content(out: &mut [u8], at: usize, packet: &[u8], row: RowWords) -> usize
     requires { ⌜ InPacket (now packet) row × Room (now out) at (contentText (now packet) row) ⌝ }
     ensures { λ r. ⌜ Wrote (now (out .entry)) at (contentText (now (packet .entry)) row) r (now (out .exit)) ⌝ }
 {
-    if row.kind == 1 {
+    if row.kind == rows::READING {
         let value = put_word(out, at, b"number\t");
         return put_number(out, value, row.tag, row.code);
     }
-    if row.kind == 2 {
+    if row.kind == rows::MARK {
         return put_word(out, at, b"mark\t-");
     }
-    if row.kind == 3 {
+    if row.kind == rows::TEXT {
         let value = put_word(out, at, b"text\t");
         return put_value(out, value, packet, row);
     }
