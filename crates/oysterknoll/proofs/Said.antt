@@ -16,7 +16,7 @@ use Rattle.listing.specs.Listing.{listingOf}
 use Rattle.listing.specs.Lists.{Lists, listSaid}
 use Rattle.listing.specs.declared.Listing.{Listing}
 use Rattle.oysterknoll.specs.Answers.{saying, counting}
-use Rattle.oysterknoll.specs.Listing.{answerBy, outputBy, listAnswer, listOutput}
+use Rattle.oysterknoll.specs.Listing.{listAnswer, listOutput}
 use Rattle.oysterknoll.specs.declared.Answer.{Answer as Struct}
 
 -- an answer r that is x and says d
@@ -32,11 +32,12 @@ module _ (p o : List ℕ) (r : Checked) (K : TagSet) (all : K ≡ allTags) (d : 
   unfolding listAnswer listOutput
   not-listed x e =
       let f : checked allTags p ≡ refusal x = sym told ∙ ap checkSaid e in
-      (ap (saying counting) (sym (ap (answerBy p o) f)), sym (ap (outputBy p o) f))
+      (rw f, rw f)
 
   pub then-listed : (a : Accepted) → r ≡ check.Accepted a → (l : Listing) (o′ : List ℕ) → Lists (listingOf p) o l o′ → (x : Listing) → l ≡ x
       → (saying counting (listSaid x) ≡ saying counting (listAnswer p o)) × (o′ ≡ listOutput p o)
   unfolding listAnswer listOutput
   then-listed a e l o′ h x m =
       let f : checked allTags p ≡ given a = sym told ∙ ap checkSaid e in
-      (said counting listSaid m (h .answer ∙ sym (ap (answerBy p o) f)), h .output ∙ sym (ap (outputBy p o) f))
+      let answer : listSaid l ≡ listAnswer p o = rw f (h .answer) in
+      (said counting listSaid m answer, rw f (h .output))

@@ -3,12 +3,15 @@ use Prim.Native.Nat.{ℕ}
 use lib.IntN.{ℤ, pos}
 use Rattle.refusal.specs.Answer.{Answer, given, refused}
 use Rattle.tagset.specs.declared.TagSet.{TagSet}
+use Rattle.rows.specs.Meaning.{readingKind, markKind, textKind, carriedKind}
+use Rattle.rows.specs.declared.Filled.{Filled}
 use Rattle.rows.specs.declared.Content.{Content}
 use Rattle.rows.specs.declared.Content.the-variants.{Reading, Mark, Text, Carried}
 use Rattle.rows.specs.declared.Row.{Row}
 use Rattle.scale.specs.declared.House.{House}
 use Rattle.scale.specs.declared.Code.{Code}
 use Rattle.packet.specs.declared.Accepted.{Accepted}
+use Rattle.writer.specs.declared.Written.{Written}
 use Rattle.ground.specs.Ground.{HeightSeen, noHeight, overEllipsoid, overSeaLevel, CornerSeen, noCorner, offTheEarth, on}
 use Rattle.oysterknoll.specs.declared.Answer.{Answer as Struct}
 
@@ -31,6 +34,12 @@ saying say (refused n place tag) = refusing n place tag
 
 abbrev pub items : Accepted → Struct
 items a = counting (a .count)
+
+abbrev pub filling : Filled → Struct
+filling f = counting (f .count)
+
+abbrev pub writing : Written → Struct
+writing w = counting (w .size)
 
 abbrev pub valuing : House → Struct
 valuing h = measuring 0 (h .value) (pos 0)
@@ -55,10 +64,10 @@ abbrev pub holding : ℕ → ℕ → ℕ → ℕ → Struct
 holding tag kind count place = record { refusal = 0; place = place; tag = tag; kind = kind; count = count; value = pos 0; second = pos 0 }
 
 abbrev pub contentAnswer : ℕ → Content → Struct
-contentAnswer tag (Reading code) = holding tag 1 code 0
-contentAnswer tag Mark = holding tag 2 0 0
-contentAnswer tag (Text part) = holding tag 3 (part .length) (part .place)
-contentAnswer tag (Carried part) = holding tag 4 (part .length) (part .place)
+contentAnswer tag (Reading code) = holding tag readingKind code 0
+contentAnswer tag Mark = holding tag markKind 0 0
+contentAnswer tag (Text part) = holding tag textKind (part .length) (part .place)
+contentAnswer tag (Carried part) = holding tag carriedKind (part .length) (part .place)
 
 abbrev pub rowAnswer : Row → Struct
 rowAnswer r = contentAnswer (r .tag) (r .content)

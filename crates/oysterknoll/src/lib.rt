@@ -11,7 +11,7 @@ ghost use Rattle.relay.specs.Forwards.{forwardAnswer, forwardOutput};
 ghost use Rattle.ground.specs.Said.{heightSaid};
 ghost use Rattle.ground.specs.Ground.{sensorHeight, frameCentreHeight, cornerOf};
 ghost use Rattle.refusal.specs.Numbers.{number};
-ghost use Rattle.oysterknoll.specs.Answers.{knowing, saying, counting, measuring, valuing, coding, refusing, items};
+ghost use Rattle.oysterknoll.specs.Answers.{knowing, saying, counting, filling, writing, measuring, valuing, coding, refusing, items};
 ghost use Rattle.oysterknoll.specs.Answers.{heightAnswer, cornerAnswer, holding, rowAnswer};
 ghost use Rattle.oysterknoll.specs.Listing.{listAnswer, listOutput};
 use ground::Corner;
@@ -101,7 +101,7 @@ pub extern "C" fn oyk_check(packet: &[u8], low: u64, high: u64) -> Answer
 // Reads a packet into a table: how many rows there are.
 #[no_mangle]
 pub extern "C" fn oyk_read(packet: &[u8], low: u64, high: u64, table: &mut [u64]) -> Answer
-    ensures { λ r. ⌜ r ≡ saying counting (readAnswer (knowing low high) (now (packet .entry)) (now (table .entry))) ⌝ }
+    ensures { λ r. ⌜ r ≡ saying filling (readAnswer (knowing low high) (now (packet .entry)) (now (table .entry))) ⌝ }
     ensures { λ _. ⌜ now (table .exit) ≡ readTable (knowing low high) (now (packet .entry)) (now (table .entry)) ⌝ }
 {
     match reader::read(packet, TagSet { low, high }, table) {
@@ -131,10 +131,10 @@ fn row_taken(row: Row) -> Answer
     let content = row.content;
     let tag = row.tag;
     match content {
-        Content::Reading(code) => held(tag, 1, code, 0),
-        Content::Mark => held(tag, 2, 0, 0),
-        Content::Text(part) => held(tag, 3, part.length as u64, part.place as u64),
-        Content::Carried(part) => held(tag, 4, part.length as u64, part.place as u64),
+        Content::Reading(code) => held(tag, rows::READING, code, 0),
+        Content::Mark => held(tag, rows::MARK, 0, 0),
+        Content::Text(part) => held(tag, rows::TEXT, part.length as u64, part.place as u64),
+        Content::Carried(part) => held(tag, rows::CARRIED, part.length as u64, part.place as u64),
     }
 }
 
@@ -166,7 +166,7 @@ pub extern "C" fn oyk_write(
     high: u64,
     out: &mut [u8],
 ) -> Answer
-    ensures { λ r. ⌜ r ≡ saying counting (writeAnswer (knowing low high) count (now (words .entry)) (now (buffer .entry)) (now (out .entry))) ⌝ }
+    ensures { λ r. ⌜ r ≡ saying writing (writeAnswer (knowing low high) count (now (words .entry)) (now (buffer .entry)) (now (out .entry))) ⌝ }
     ensures { λ _. ⌜ now (out .exit) ≡ writeOutput (knowing low high) count (now (words .entry)) (now (buffer .entry)) (now (out .entry)) ⌝ }
 {
     match writer::write(TagSet { low, high }, count, words, buffer, out) {
@@ -178,7 +178,7 @@ pub extern "C" fn oyk_write(
 // Sends a packet on: how many bytes it takes.
 #[no_mangle]
 pub extern "C" fn oyk_forward(packet: &[u8], low: u64, high: u64, out: &mut [u8]) -> Answer
-    ensures { λ r. ⌜ r ≡ saying counting (forwardAnswer (knowing low high) (now (packet .entry)) (now (out .entry))) ⌝ }
+    ensures { λ r. ⌜ r ≡ saying writing (forwardAnswer (knowing low high) (now (packet .entry)) (now (out .entry))) ⌝ }
     ensures { λ _. ⌜ now (out .exit) ≡ forwardOutput (knowing low high) (now (packet .entry)) (now (out .entry)) ⌝ }
 {
     match relay::forward(TagSet { low, high }, packet, out) {

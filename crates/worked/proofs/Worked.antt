@@ -15,7 +15,8 @@ use Rattle.scale.specs.Nearest.{nearest}
 use Rattle.scale.specs.Scales.{codes, half, origin, reach, steps}
 use Rattle.scale.specs.Conversions.{houseOf, toHouse, codeOf, toCode}
 use Rattle.packet.specs.Pieces.{readItem, walk}
-use Rattle.packet.specs.Structure.{key, lastly, ends, afterOuter, structure}
+use Rattle.packet.specs.Ends.{rightEnds}
+use Rattle.packet.specs.Structure.{key, frame, rightSum, structure}
 use Rattle.packet.specs.Judge.{faultOf, judgeFrom, judge}
 use Rattle.packet.specs.Verdict.{verdict}
 use Rattle.packet.specs.Rows.{shapeFor, rowOf, rowsOf, words, tableOf, lentVerdict, readAnswer, readTable}
@@ -24,6 +25,6 @@ use Rattle.worked.specs.Values.{right, packet, values}
 pub all-right : all right values ≡ true
 unfolding values readLength valueFrom groups member itemIn itemOf codes half origin reach steps nearest houseOf toHouse codeOf toCode
     readTag tagSecond tagThird weighed holds shapeOf codeAllowed rows rowsFrom allTags inCatalogue good
-    readItem walk key lastly ends afterOuter structure faultOf judgeFrom judge verdict
+    readItem walk key frame rightEnds rightSum structure faultOf judgeFrom judge verdict
     shapeFor rowOf rowsOf words tableOf lentVerdict readAnswer readTable packet
 all-right = refl

@@ -4,17 +4,17 @@ use mathlib.Core.Bool.{Bool, true, false, _&&_}
 use mathlib.Core.List.{List, [], _∷_, _++_}
 use lib.ListN.{length, replicate}
 use lib.Dec.{eqb}
-use lib.IntN.{ℤ, pos, negℤ}
+use lib.IntN.{ℤ, pos, negsuc, negℤ}
 use Rattle.refusal.specs.Answer.{Answer, given, refused}
 use Rattle.ber.specs.Read.{Read, got, broken, readLength}
 use Rattle.catalogue.specs.Rows.{allTags}
-use Rattle.catalogue.proofs.Same.{sameWhole}
 use Rattle.scale.specs.Conversions.{toHouse, toCode}
 use Rattle.scale.specs.declared.House.{House}
 use Rattle.scale.specs.declared.Code.{Code}
 use Rattle.packet.specs.Structure.{key, same}
 use Rattle.packet.specs.Rows.{words, readAnswer, readTable}
-use Rattle.rows.specs.Kinds.{Row}
+use Rattle.rows.specs.Meaning.{Row, readingKind}
+use Rattle.rows.specs.declared.Filled.{Filled}
 
 abbrev pub sameRead : Read → Read → Bool
 sameRead (got v s) (got w t) = eqb v w && eqb s t
@@ -27,6 +27,12 @@ sameAnswer same (given a) (given b) = same a b
 sameAnswer same (given a) (refused n p t) = false
 sameAnswer same (refused m q u) (given b) = false
 sameAnswer same (refused m q u) (refused n p t) = eqb m n && (eqb q p && eqb u t)
+
+abbrev pub sameWhole : ℤ → ℤ → Bool
+sameWhole (pos m) (pos n) = eqb m n
+sameWhole (pos m) (negsuc n) = false
+sameWhole (negsuc m) (pos n) = false
+sameWhole (negsuc m) (negsuc n) = eqb m n
 
 -- what a conversion gives, all of it
 abbrev pub house : ℤ → Answer House
@@ -41,6 +47,9 @@ code stored = given (record { code = stored })
 abbrev pub sameCode : Code → Code → Bool
 sameCode c d = eqb (c .code) (d .code)
 
+abbrev pub sameFilled : Filled → Filled → Bool
+sameFilled f g = eqb (f .count) (g .count)
+
 -- a lent table of words that are not zero, one longer than the reader needs
 abbrev pub lent : List ℕ
 lent = replicate 513 7
@@ -51,7 +60,7 @@ tableWith rows = words rows ++ (replicate (512 - 4 * length rows) 0 ++ (7 ∷ []
 
 -- a number's row, by the place of its value
 abbrev pub numberRow : ℕ → ℕ → ℕ → ℕ → Row
-numberRow place size tag code = record { tag = tag; kind = 1; code = code; spot = place * 65536 + size }
+numberRow place size tag code = record { tag = tag; kind = readingKind; code = code; spot = place * 65536 + size }
 
 pub data Case : Type 0 where
   -- the bytes of a length, and what reading them finds
@@ -67,7 +76,7 @@ right (lengthCase bytes found) = sameRead (readLength bytes) found
 right (houseCase tag code answer) = sameAnswer sameHouse (toHouse tag code) answer
 right (codeCase tag value answer) = sameAnswer sameCode (toCode tag value) answer
 right (packetCase packet rows) =
-    sameAnswer eqb (readAnswer allTags packet lent) (given (length rows)) && same (readTable allTags packet lent) (tableWith rows)
+    sameAnswer sameFilled (readAnswer allTags packet lent) (given (record { count = length rows })) && same (readTable allTags packet lent) (tableWith rows)
 
 -- "The packet key, 11, 02 08 00 00 00 00 00 00 00 01, 41 01 11, 01 02 62 A6 is accepted."
 unfoldable pub packet : List ℕ
