@@ -4,3 +4,5 @@ pub mod Parts
 pub mod Putting
 pub mod Whole
 pub mod Determined
+pub mod Walk
+pub mod Kit
