@@ -5,3 +5,5 @@ pub mod Parts
 pub mod Putting
 pub mod Whole
 pub mod Determined
+pub mod Walk
+pub mod Kit

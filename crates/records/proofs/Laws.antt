@@ -45,7 +45,8 @@ unfolding imageOf
 image-by r c e = ap (contentImage (r .tag)) (sym e)
 
 -- the four stores, one after the other
-pub puts : (t : List ℕ) (n : ℕ) (r s : Row) → r ≡ s → set (set (set (set t (4 * n) (r .tag)) (4 * n + 1) (r .kind)) (4 * n + 2) (r .code)) (4 * n + 3) (r .spot) ≡ putImage t n s
+pub puts : (t : List ℕ) (n : ℕ) (r s : Row) → r ≡ s → set (set (set (set t (4 * n) (r .tag)) (4 * n + 1) (r .kind)) (4 * n + 2) (r .code)) (4 * n + 3)
+    (r .spot) ≡ putImage t n s
 puts t n r s e =
     let one : 4 * n + 1 ≡ suc (4 * n) = omega arith in
     let two : 4 * n + 2 ≡ suc (suc (4 * n)) = omega arith in

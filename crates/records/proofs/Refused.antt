@@ -22,7 +22,8 @@ use Rattle.writer.specs.Writes.{written}
 use Rattle.records.specs.Images.{partImage, tableOf}
 
 -- "a list of over 128 records gets 16"
-pub too-many : (K : TagSet) (rs : List Record) (b : List ℕ) (room : ℕ) → good K ≡ true → 128 < length rs → written K (length rs) (tableOf rs) b room ≡ refused 16 0 0
+pub too-many : (K : TagSet) (rs : List Record) (b : List ℕ) (room : ℕ) → good K ≡ true → 128 < length rs
+    → written K (length rs) (tableOf rs) b room ≡ refused 16 0 0
 unfolding written outgoing
 too-many K rs b room s h = rw (s, lt-leb _ _ h)
 
@@ -56,4 +57,5 @@ large-place-bad s room tag kind part h = rw (le-ltb (part .place) (2 ^ 48) h) (k
 
 pub long-part-bad : (s : Shape) (room tag kind : ℕ) (part : Part) → 65536 ≤ part .length → rowGood s room (partImage tag kind part) ≡ false
 long-part-bad s room tag kind part h =
-    rw (both-false (ltb (part .place) (2 ^ 48)) (ltb (part .length) 65536) (λ e. le-ltb (part .length) 65536 h)) (kind-none-bad s room (record { tag = tag; kind = 0; code = 0; spot = 0 }) refl)
+    rw (both-false (ltb (part .place) (2 ^ 48)) (ltb (part .length) 65536) (λ e. le-ltb (part .length) 65536 h))
+    (kind-none-bad s room (record { tag = tag; kind = 0; code = 0; spot = 0 }) refl)

@@ -79,7 +79,8 @@ module _ (r : Row) where
   part-image kind h k c =
       let place : spotPlace (r .spot) < 2 ^ 48 = omega (arith, h) in
       let short : spotLength (r .spot) < 65536 = omega arith in
-      ap (λ b. cond b (record { tag = r .tag; kind = kind; code = 0; spot = spotPlace (r .spot) * 65536 + spotLength (r .spot) }) (record { tag = r .tag; kind = 0; code = 0; spot = 0 }))
+      ap (λ b. cond b (record { tag = r .tag; kind = kind; code = 0; spot = spotPlace (r .spot) * 65536 + spotLength (r .spot) })
+      (record { tag = r .tag; kind = 0; code = 0; spot = 0 }))
       (both-true _ _ (lt-ltb _ _ place) (lt-ltb _ _ short))
       ∙ words-of refl (sym k) (sym c) (div-add-mod' (r .spot) 65536)
 
@@ -109,12 +110,17 @@ record Alike (K : Knowing) (b : List ℕ) (r s : Row) : Type 0 where
   piece : pieceOf K b s ≡ pieceOf K b r
 
 module _ (K : Knowing) (b : List ℕ) (r : Row) where
-  number-alike : (width : ℕ) (marked : Bool) → shapeFor K (r .tag) ≡ Number width marked → width ≤ 8 → Fine (Number width marked) (length b) r → Alike K b r (placed r width)
+  number-alike : (width : ℕ) (marked : Bool) → shapeFor K (r .tag) ≡ Number width marked → width ≤ 8 → Fine (Number width marked) (length b) r
+      → Alike K b r (placed r width)
   unfolding pieceOf
   number-alike width marked f small g =
       let size : spotLength width ≡ width = omega (arith, small) in
       let coded : codeGood (r .tag) width (r .code) ≡ true = both-right (eqb (spotLength (r .spot)) width) _ (g .content) in
-      let g′ : Fine (Number width marked) (length b) (placed r width) = record { tagged = g .tagged; kind = g .kind; content = both-true _ _ (eq-eqb _ _ size) coded } in
+      let g′ : Fine (Number width marked) (length b) (placed r width) = record {
+        tagged = g .tagged;
+        kind = g .kind;
+        content = both-true _ _ (eq-eqb _ _ size) coded;
+      } in
       record { kept = rw f (fine-good (Number width marked) (length b) (placed r width) g′); piece = rw f }
 
   same-alike : (s : Row) → s ≡ r → GoodRow K b r → Alike K b r s
@@ -155,27 +161,32 @@ module _ (t : List ℕ) (n : ℕ) (r : Row) where
 
   -- a word before or after the second, third and fourth
   past : (j : ℕ) → (j ≡ suc i → ⊥) → (j ≡ suc (suc i) → ⊥) → (j ≡ suc (suc (suc i)) → ⊥) → getD (putImage t n r) j 0 ≡ getD one j 0
-  past j a b c = getD-set-other three (suc (suc (suc i))) j (r .spot) 0 c ∙ getD-set-other two (suc (suc i)) j (r .code) 0 b ∙ getD-set-other one (suc i) j (r .kind) 0 a
+  past j a b c = getD-set-other three (suc (suc (suc i))) j (r .spot) 0 c ∙ getD-set-other two (suc (suc i)) j (r .code) 0 b
+      ∙ getD-set-other one (suc i) j (r .kind) 0 a
 
   before : (j : ℕ) → j < i → getD (putImage t n r) j 0 ≡ getD t j 0
-  before j h = past j (λ e. omega (arith, h, e)) (λ e. omega (arith, h, e)) (λ e. omega (arith, h, e)) ∙ getD-set-other t i j (r .tag) 0 (λ e. omega (arith, h, e))
+  before j h = past j (λ e. omega (arith, h, e)) (λ e. omega (arith, h, e)) (λ e. omega (arith, h, e))
+      ∙ getD-set-other t i j (r .tag) 0 (λ e. omega (arith, h, e))
 
   put-other : (k : ℕ) → k < n → rowAt (putImage t n r) k ≡ rowAt t k
   unfolding rowAt
   put-other k h =
-      words-of (before (4 * k) (omega (arith, h))) (before (4 * k + 1) (omega (arith, h))) (before (4 * k + 2) (omega (arith, h))) (before (4 * k + 3) (omega (arith, h)))
+      words-of (before (4 * k) (omega (arith, h))) (before (4 * k + 1) (omega (arith, h))) (before (4 * k + 2) (omega (arith, h)))
+      (before (4 * k + 3) (omega (arith, h)))
 
   put-at : 4 * n + 4 ≤ length t → rowAt (putImage t n r) n ≡ r
   unfolding rowAt
   put-at h =
       words-of
       (past i (λ e. omega (arith, e)) (λ e. omega (arith, e)) (λ e. omega (arith, e)) ∙ getD-set-same t i (r .tag) 0 (omega (arith, h)))
-      (ap (λ j. getD (putImage t n r) j 0) second ∙ getD-set-other three (suc (suc (suc i))) (suc i) (r .spot) 0 (λ e. omega (arith, e)) ∙ getD-set-other two (suc (suc i)) (suc i) (r .code) 0 (λ e. omega (arith, e))
+      (ap (λ j. getD (putImage t n r) j 0) second ∙ getD-set-other three (suc (suc (suc i))) (suc i) (r .spot) 0 (λ e. omega (arith, e))
+      ∙ getD-set-other two (suc (suc i)) (suc i) (r .code) 0 (λ e. omega (arith, e))
       ∙ getD-set-same one (suc i) (r .kind) 0 (lt-length-set t i (r .tag) (omega (arith, h))))
       (ap (λ j. getD (putImage t n r) j 0) third ∙ getD-set-other three (suc (suc (suc i))) (suc (suc i)) (r .spot) 0 (λ e. omega (arith, e))
       ∙ getD-set-same two (suc (suc i)) (r .code) 0 (lt-length-set one (suc i) (r .kind) (lt-length-set t i (r .tag) (omega (arith, h)))))
       (ap (λ j. getD (putImage t n r) j 0) fourth
-      ∙ getD-set-same three (suc (suc (suc i))) (r .spot) 0 (lt-length-set two (suc (suc i)) (r .code) (lt-length-set one (suc i) (r .kind) (lt-length-set t i (r .tag) (omega (arith, h))))))
+      ∙ getD-set-same three (suc (suc (suc i))) (r .spot) 0 (lt-length-set two (suc (suc i)) (r .code)
+      (lt-length-set one (suc i) (r .kind) (lt-length-set t i (r .tag) (omega (arith, h))))))
     where
       second : 4 * n + 1 ≡ suc i
       second = omega arith
@@ -234,7 +245,8 @@ module _ (K : Knowing) (b : List ℕ) where
   each-good k zero t h = tt
   each-good k (suc n) t h = (h k (omega arith) (omega arith), each-good (suc k) n t (λ j l m. h j (omega (arith, l)) (omega (arith, m))))
 
-  same-pieces : (k n : ℕ) (t u : List ℕ) → ((j : ℕ) → k ≤ j → j < k + n → pieceOf K b (rowAt t j) ≡ pieceOf K b (rowAt u j)) → piecesOf K b (rowsIn k n t) ≡ piecesOf K b (rowsIn k n u)
+  same-pieces : (k n : ℕ) (t u : List ℕ) → ((j : ℕ) → k ≤ j → j < k + n → pieceOf K b (rowAt t j) ≡ pieceOf K b (rowAt u j))
+      → piecesOf K b (rowsIn k n t) ≡ piecesOf K b (rowsIn k n u)
   unfolding rowsIn piecesOf
   same-pieces k zero t u h = refl
   same-pieces k (suc n) t u h = rw (h k (omega arith) (omega arith), same-pieces (suc k) n t u (λ j l m. h j (omega (arith, l)) (omega (arith, m))))
@@ -275,7 +287,8 @@ module _ (K : TagSet) (w b : List ℕ) (rs : List Record) (h : Words w) (p : Tak
   outgoing-same : outgoing K (length rs) (tableOf rs) b ≡ outgoing K (length rs) w b
   unfolding outgoing
   outgoing-same =
-      let l : countGood (length rs) (length (tableOf rs)) ≡ true = both-true _ _ (le-leb _ _ (few .0)) (le-leb (4 * length rs) (length (tableOf rs)) (rw (length-table rs) (omega (arith, few .0)))) in
+      let l : countGood (length rs) (length (tableOf rs)) ≡ true = both-true _ _ (le-leb _ _ (few .0))
+      (le-leb (4 * length rs) (length (tableOf rs)) (rw (length-table rs) (omega (arith, few .0)))) in
       let m : countGood (length rs) (length w) ≡ true = both-true _ _ (le-leb _ _ (few .0)) (le-leb _ _ (few .1)) in
       rw (l, m, rows-same)
 
@@ -287,11 +300,17 @@ module _ (K : TagSet) (w b : List ℕ) (rs : List Record) (h : Words w) (p : Tak
   -- so one contract holds of an outcome where the other does
   pub records-then-words : (o o′ : List ℕ) (z : Writing) → Writes K (length rs) (tableOf rs) b o z o′ → Writes K (length rs) w b o z o′
   unfolding writeAnswer writeOutput
-  records-then-words o o′ z e = record { answer = e .answer ∙ ap bytesCount (records-written (length o)); output = e .output ∙ ap (outputBy o) (records-written (length o)) }
+  records-then-words o o′ z e = record {
+    answer = e .answer ∙ ap bytesCount (records-written (length o));
+    output = e .output ∙ ap (outputBy o) (records-written (length o));
+  }
 
   pub words-then-records : (o o′ : List ℕ) (z : Writing) → Writes K (length rs) w b o z o′ → Writes K (length rs) (tableOf rs) b o z o′
   unfolding writeAnswer writeOutput
-  words-then-records o o′ z e = record { answer = e .answer ∙ sym (ap bytesCount (records-written (length o))); output = e .output ∙ sym (ap (outputBy o) (records-written (length o))) }
+  words-then-records o o′ z e = record {
+    answer = e .answer ∙ sym (ap bytesCount (records-written (length o)));
+    output = e .output ∙ sym (ap (outputBy o) (records-written (length o)));
+  }
 
 -- ---- good rows are taken out
 taken-length : (K : Knowing) (k n : ℕ) (w : List ℕ) → length (takenFrom K k n w) ≡ n
@@ -309,7 +328,8 @@ good-at : (K : Knowing) (b : List ℕ) (k n : ℕ) (w : List ℕ) → Each (Good
 unfolding rowsIn
 good-at K b k zero w g j l = absurd (omega (arith, l))
 good-at K b k (suc n) w g zero l = let e : k ≡ k + 0 = omega arith in subst (λ i. GoodRow K b (rowAt w i)) e (g .0)
-good-at K b k (suc n) w g (suc j) l = let e : suc k + j ≡ k + suc j = omega arith in subst (λ i. GoodRow K b (rowAt w i)) e (good-at K b (suc k) n w (g .1) j (omega (arith, l)))
+good-at K b k (suc n) w g (suc j) l = let e : suc k + j ≡ k + suc j = omega arith in subst (λ i. GoodRow K b (rowAt w i)) e
+    (good-at K b (suc k) n w (g .1) j (omega (arith, l)))
 
 pub good-taken-out : (K : TagSet) (b : List ℕ) (n : ℕ) (w : List ℕ) → good K ≡ true → countGood n (length w) ≡ true → Each (GoodRow (holds K) b) (rowsIn 0 n w)
     → TakenOut K (length b) w (takenFrom (holds K) 0 n w)

@@ -157,7 +157,8 @@ fn write_table(
 
 // Writes the records as a packet, with the buffer that text and carried records point into.
 pub fn write_records(known: TagSet, records: &[Row], buffer: &[u8], out: &mut [u8]) -> Writing
-    ensures { λ r. ⌜ Writes known (length (now (records .entry))) (tableOf (now (records .entry))) (now (buffer .entry)) (now (out .entry)) r (now (out .exit)) ⌝ }
+    ensures { λ r. ⌜ Writes known (length (now (records .entry))) (tableOf (now (records .entry)))
+        (now (buffer .entry)) (now (out .entry)) r (now (out .exit)) ⌝ }
 {
     let c = count(records);
     let n = fitting_of(c);

@@ -100,7 +100,14 @@ module _ (K : TagSet) (p : List ℕ) where
     fits w m e =
         let size : length (valueIn p h) ≡ w = number-width (holds K) (itemBy p h .piece) w m s e in
         let few : w ≤ 8 = narrow w m e in
-        omega (arith, value-small (valueIn p h) (lies-bytes p (itemBy p h) by l), size, few, pow-le-pow-right {n = 256} (omega arith) {i = length (valueIn p h)} {j = 8} (omega (arith, size, few)))
+        omega (
+          arith,
+          value-small (valueIn p h) (lies-bytes p (itemBy p h) by l),
+          size,
+          few,
+          pow-le-pow-right {n = 256}
+              (omega arith) {i = length (valueIn p h)} {j = 8} (omega (arith, size, few)),
+        )
 
     same-part : record { place = h .place; length = h .size } ≡ partOf (h .place * 65536 + length (valueIn p h))
     same-part = rw (digits-div (h .place) (l .short), digits-mod (h .place) (l .short), long)
@@ -133,7 +140,8 @@ module _ (K : TagSet) (p : List ℕ) where
   module _ (by : Bytes p) where
     -- an item, and then the others
     hands-one : (n at : ℕ) (is : List Item) (i : Header) → Hands n → headerAt p at ≡ given i → (a : Answer (List Item))
-        → walk n (i .place + i .size) (drop (i .place + i .size) p) ≡ a → before (itemBy p i) a ≡ given is → Each (Lies p) is → Each (SizedFor (holds K)) (pieces is)
+        → walk n (i .place + i .size) (drop (i .place + i .size) p) ≡ a → before (itemBy p i) a ≡ given is → Each (Lies p) is
+        → Each (SizedFor (holds K)) (pieces is)
         → handed (suc (suc n)) K p at ≡ handedRows K p (rowsOf (holds K) is)
     unfolding handed foundAt partAt nextAt handedRows rowsOf
     hands-one n at is i others e (refused r b g) f q l s = never (cc)

@@ -1,3 +1,4 @@
+pub mod Held
 pub mod Headers
 pub mod Rows
 pub mod Handed

@@ -14,13 +14,15 @@ enum-known-item : tie.Need-enum-known-item
 enum-known-item c = search needs
 
 row-of-requires : tie.Need-row-of-requires
-row-of-requires c κs = item-inside _ _ (c .before .before .before .item-at .result) _ (c .before .before .before .item-at .ensures) (c .before .item .given .1) (record { byte = λ i. c .before .before .before .before .shared-slice-known .given i .fits }) _ refl
+row-of-requires c κs = item-inside _ _ (c .before .before .before .item-at .result) _ (c .before .before .before .item-at .ensures)
+    (c .before .item .given .1) (record { byte = λ i. c .before .before .before .before .shared-slice-known .given i .fits }) _ refl
 
 enum-told : tie.Need-enum-told
 enum-told c = search needs
 
 returns : tie.Need-returns
-returns c = ap Item (c .row-of .ensures) ∙ found-said _ _ (c .before .before .before .before .item-at .result) _ (c .before .before .before .before .item-at .ensures) (c .before .before .item .given .1) _
+returns c = ap Item (c .row-of .ensures) ∙ found-said _ _ (c .before .before .before .before .item-at .result) _
+    (c .before .before .before .before .item-at .ensures) (c .before .before .item .given .1) _
 
 returns-2 : tie.Need-returns-2
 returns-2 c = found-said _ _ (c .before .before .item-at .result) _ (c .before .before .item-at .ensures) (c .enum-told .given .1) _

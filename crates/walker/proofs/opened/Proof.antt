@@ -15,10 +15,16 @@ enum-known-refusal : tie.Need-enum-known-refusal
 enum-known-refusal c = search needs
 
 returns : tie.Need-returns
-returns c = (begin-said _ _ (c .before .before .before .check .result) _ (c .before .before .before .check .ensures) (c .before .accepted .given .1), place-said _ _ (c .before .before .before .check .result) _ (c .before .before .before .check .ensures) (c .before .accepted .given .1))
+returns c = (
+  begin-said _ _ (c .before .before .before .check .result) _ (c .before .before .before .check .ensures) (c .before .accepted .given .1),
+  place-said _ _ (c .before .before .before .check .result) _ (c .before .before .before .check .ensures) (c .before .accepted .given .1),
+)
 
 returns-2 : tie.Need-returns-2
-returns-2 c = (begin-said _ _ (c .before .before .before .check .result) _ (c .before .before .before .check .ensures) (c .before .refusal .given .1), place-said _ _ (c .before .before .before .check .result) _ (c .before .before .before .check .ensures) (c .before .refusal .given .1))
+returns-2 c = (
+  begin-said _ _ (c .before .before .before .check .result) _ (c .before .before .before .check .ensures) (c .before .refusal .given .1),
+  place-said _ _ (c .before .before .before .check .result) _ (c .before .before .before .check .ensures) (c .before .refusal .given .1),
+)
 
 pub opened-spec : {M : Type 1} → statement M
 opened-spec =

@@ -27,7 +27,8 @@ content-of-requires : tie.Need-content-of-requires
 content-of-requires c κs = search needs
 
 returns : tie.Need-returns
-returns c = row-made _ _ (c .before .before .before .before .before .args .item) _ _ _ (c .before .shape-of .ensures) (c .before .before .value .ensures) (c .content-of .ensures)
+returns c = row-made _ _ (c .before .before .before .before .before .args .item) _ _ _ (c .before .shape-of .ensures) (c .before .before .value .ensures)
+    (c .content-of .ensures)
 
 pub row-of-spec : {M : Type 1} → statement M
 row-of-spec =

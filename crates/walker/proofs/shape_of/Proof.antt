@@ -19,16 +19,22 @@ enum-known-item : tie.Need-enum-known-item
 enum-known-item c = search needs
 
 returns : tie.Need-returns
-returns c = text-shape (c .before .before .item .given .0 .0) (c .if2 .taken) ∙ listed _ _ _ (c .before .before .before .before .before .before .has .ensures) (c .before .before .before .before .before .if1 .taken) _ _ (c .before .before .before .before .item-of .ensures) (c .before .before .item .given .1)
+returns c = text-shape (c .before .before .item .given .0 .0) (c .if2 .taken)
+    ∙ listed _ _ _ (c .before .before .before .before .before .before .has .ensures) (c .before .before .before .before .before .if1 .taken) _ _
+    (c .before .before .before .before .item-of .ensures) (c .before .before .item .given .1)
 
 number-shape-requires : tie.Need-number-shape-requires
 number-shape-requires c κs = search needs
 
 returns-2 : tie.Need-returns-2
-returns-2 c = listed _ _ _ (c .before .before .before .before .has .ensures) (c .before .before .before .if1 .taken) _ _ (c .before .before .item-of .ensures) (c .enum-told .given .1)
+returns-2 c = listed _ _ _ (c .before .before .before .before .has .ensures) (c .before .before .before .if1 .taken) _ _ (c .before .before .item-of .ensures)
+    (c .enum-told .given .1)
 
 returns-3 : tie.Need-returns-3
-returns-3 c = c .number-shape .ensures ∙ (number-shaped (c .before .before .before .item .given .0 .0) (c .before .if2 .left) ∙ listed _ _ _ (c .before .before .before .before .before .before .before .has .ensures) (c .before .before .before .before .before .before .if1 .taken) _ _ (c .before .before .before .before .before .item-of .ensures) (c .before .before .before .item .given .1))
+returns-3 c = c .number-shape .ensures ∙ (number-shaped (c .before .before .before .item .given .0 .0) (c .before .if2 .left)
+    ∙ listed _ _ _ (c .before .before .before .before .before .before .before .has .ensures)
+    (c .before .before .before .before .before .before .if1 .taken) _ _ (c .before .before .before .before .before .item-of .ensures)
+    (c .before .before .before .item .given .1))
 
 returns-4 : tie.Need-returns-4
 returns-4 c = not-known _ _ _ (c .before .has .ensures) (c .if1 .left)

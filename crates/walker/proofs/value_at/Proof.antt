@@ -16,7 +16,12 @@ enum-known-item : tie.Need-enum-known-item
 enum-known-item c = search needs
 
 add-end : tie.Need-add-end
-add-end c = omega (arith, item-inside _ _ (c .before .before .before .before .item-at .result) _ (c .before .before .before .before .item-at .ensures) (c .before .before .item .given .1) (record { byte = λ i. c .before .before .before .before .before .shared-slice-known .given i .fits }) _ refl, c .before .before .before .before .before .before .good)
+add-end c = omega (
+  arith,
+  item-inside _ _ (c .before .before .before .before .item-at .result) _ (c .before .before .before .before .item-at .ensures)
+      (c .before .before .item .given .1) (record { byte = λ i. c .before .before .before .before .before .shared-slice-known .given i .fits }) _ refl,
+  c .before .before .before .before .before .before .good,
+)
 
 sub-result : tie.Need-sub-result
 sub-result c = search needs
@@ -25,13 +30,16 @@ part-result-start : tie.Need-part-result-start
 part-result-start c = search needs
 
 part-result-end : tie.Need-part-result-end
-part-result-end c = item-inside _ _ (c .before .before .before .before .item-at .result) _ (c .before .before .before .before .item-at .ensures) (c .before .before .item .given .1) (record { byte = λ i. c .before .before .before .before .before .shared-slice-known .given i .fits }) _ refl
+part-result-end c = item-inside _ _ (c .before .before .before .before .item-at .result) _ (c .before .before .before .before .item-at .ensures)
+    (c .before .before .item .given .1) (record { byte = λ i. c .before .before .before .before .before .shared-slice-known .given i .fits }) _ refl
 
 returns : tie.Need-returns
 returns c =
     let i = c .before .before .before .item .given .0 .0 in
     let k : i .place + i .size - i .place ≡ i .size = omega arith in
-    ap (λ n. take n (drop (i .place) (c .before .before .before .before .before .before .before .args .packet .now))) k ∙ part-said _ _ (c .before .before .before .before .before .item-at .result) _ (c .before .before .before .before .before .item-at .ensures) (c .before .before .before .item .given .1)
+    ap (λ n. take n (drop (i .place) (c .before .before .before .before .before .before .before .args .packet .now))) k
+    ∙ part-said _ _ (c .before .before .before .before .before .item-at .result) _ (c .before .before .before .before .before .item-at .ensures)
+    (c .before .before .before .item .given .1)
 
 enum-told : tie.Need-enum-told
 enum-told c = search needs
