@@ -1,22 +1,29 @@
 -- `trials::cases` meets its contract.
 -- Assumes nothing.
-use Prim.Native.Nat.{_≤_, _-_}
+use Prim.Native.Nat.{_-_, _≤_}
+use mathlib.Core.Path.{_≡_}
 use borrow.Author.Needs.{needs}
 use lib.ListN.{length}
 use Rattle.trials.proofs.cases.Statement.{statement}
 use Rattle.trials.proofs.cases.Tie as tie
 
 abbrev Inv-loop : tie.InvT-loop
-Inv-loop input at₀ at = at ≤ length input
+Inv-loop input table₀ at₀ table at = (at ≤ length input) × (length table ≡ 520)
 
 abbrev μ-loop : tie.MeasureT-loop
-μ-loop input at₀ at = length input - at
+μ-loop input table₀ at₀ table at = length input - at
+
+sevens-requires : tie.Need-sevens-requires Inv-loop μ-loop
+sevens-requires c κs = search needs
 
 word-start-requires : tie.Need-word-start-requires Inv-loop μ-loop
 word-start-requires c κs = search needs
 
 loop-holds : tie.Need-loop-holds Inv-loop μ-loop
 loop-holds c = search needs
+
+slice-aggregate-case : tie.Need-slice-aggregate-case Inv-loop μ-loop
+slice-aggregate-case c = search needs
 
 case-requires : tie.Need-case-requires Inv-loop μ-loop
 case-requires c κs = search needs
@@ -39,8 +46,10 @@ cases-spec =
     (tie.spec
     Inv-loop
     μ-loop
+    sevens-requires
     word-start-requires
     loop-holds
+    slice-aggregate-case
     case-requires
     word-start-requires-2
     loop-less

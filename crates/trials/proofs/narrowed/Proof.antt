@@ -8,10 +8,10 @@ use Rattle.trials.proofs.narrowed.Statement.{statement}
 use Rattle.trials.proofs.narrowed.Tie as tie
 
 abbrev Inv-loop : tie.InvT-loop
-Inv-loop words bytes₀ i₀ bytes i = (i ≤ 1024) × (length bytes ≡ 1024)
+Inv-loop words bytes₀ i₀ bytes i = (i ≤ 8200) × (length bytes ≡ 8200)
 
 abbrev μ-loop : tie.MeasureT-loop
-μ-loop words bytes₀ i₀ bytes i = 1024 - i
+μ-loop words bytes₀ i₀ bytes i = 8200 - i
 
 loop-holds : tie.Need-loop-holds Inv-loop μ-loop
 loop-holds c = search needs

@@ -1,0 +1,64 @@
+-- `trials::readings::table_words` meets its contract.
+-- Assumes nothing.
+use Prim.Native.Nat.{_-_, _≤_}
+use borrow.Author.Needs.{needs}
+use lib.ListN.{length}
+use Rattle.trials.proofs.readings.table_words.Statement.{statement}
+use Rattle.trials.proofs.readings.table_words.Tie as tie
+
+abbrev Inv-loop : tie.InvT-loop
+Inv-loop table places i₀ i = i ≤ length places
+
+abbrev μ-loop : tie.MeasureT-loop
+μ-loop table places i₀ i = length places - i
+
+slice-aggregate-say : tie.Need-slice-aggregate-say Inv-loop μ-loop
+slice-aggregate-say c = search needs
+
+say-requires : tie.Need-say-requires Inv-loop μ-loop
+say-requires c κs = search needs
+
+loop-holds : tie.Need-loop-holds Inv-loop μ-loop
+loop-holds c = search needs
+
+mul-table-word : tie.Need-mul-table-word Inv-loop μ-loop
+mul-table-word c = search needs
+
+shared-slice-read-table-word : tie.Need-shared-slice-read-table-word Inv-loop μ-loop
+shared-slice-read-table-word c = search needs
+
+table-word-requires : tie.Need-table-word-requires Inv-loop μ-loop
+table-word-requires c κs = search needs
+
+add-i : tie.Need-add-i Inv-loop μ-loop
+add-i c = search needs
+
+loop-less : tie.Need-loop-less Inv-loop μ-loop
+loop-less c = search needs
+
+loop-again : tie.Need-loop-again Inv-loop μ-loop
+loop-again c = search needs
+
+newline-requires : tie.Need-newline-requires Inv-loop μ-loop
+newline-requires c κs = search needs
+
+returns : tie.Need-returns Inv-loop μ-loop
+returns c = search needs
+
+pub table-words-spec : {M : Type 1} → statement M
+table-words-spec =
+    tie.close
+    (tie.spec
+    Inv-loop
+    μ-loop
+    slice-aggregate-say
+    say-requires
+    loop-holds
+    mul-table-word
+    shared-slice-read-table-word
+    table-word-requires
+    add-i
+    loop-less
+    loop-again
+    newline-requires
+    returns)

@@ -1,0 +1,88 @@
+// What is written to a lent output: packets of rows and of records, and listings. The whole output is shown.
+ghost use Prim.Native.Nat.{_≤_};
+use crate::text::hexadecimal;
+use crate::text::sized;
+use console::refused;
+use libc::STDOUT_FILENO;
+use listing::Listing;
+use rows::Content;
+use rows::Part;
+use rows::Row;
+use writer::Writing;
+
+// The part of an output that a case asks for. A case that asks for more than there is gets it all.
+fn room(out: &mut [u8], size: u64) -> &mut [u8] {
+    if size <= out.len() as u64 {
+        let end = size as usize;
+        return &mut out[..end];
+    }
+    out
+}
+
+fn size_of(kind: u8, words: &[u64; 16]) -> u64 {
+    if kind == b'%' {
+        return words[0];
+    }
+    words[2]
+}
+
+fn packed(answer: Writing) {
+    match answer {
+        Writing::Packet(packet) => sized(b"packet", packet.size),
+        Writing::Refused(r) => refused(STDOUT_FILENO, r),
+    }
+}
+
+fn listed(answer: Listing) {
+    match answer {
+        Listing::Lines(lines) => sized(b"listing", lines.size),
+        Listing::Refused(r) => refused(STDOUT_FILENO, r),
+    }
+}
+
+fn content_of(kind: u64, first: u64, second: u64) -> Content {
+    let part = Part {
+        place: first as usize,
+        length: second as usize,
+    };
+    match kind {
+        1 => Content::Reading(first),
+        2 => Content::Mark,
+        3 => Content::Text(part),
+        _ => Content::Carried(part),
+    }
+}
+
+// The record that four words are.
+fn record_of(words: &[u64; 16], at: usize) -> Row
+    requires { ⌜ at ≤ 12 ⌝ }
+{
+    let content = content_of(words[at + 1], words[at + 2], words[at + 3]);
+    Row {
+        tag: words[at],
+        content,
+    }
+}
+
+fn recorded(words: &[u64; 16], buffer: &[u8], out: &mut [u8]) {
+    let a = record_of(words, 3);
+    let b = record_of(words, 7);
+    let c = record_of(words, 11);
+    let known = crate::known_of(words);
+    packed(records::write_three(known, [a, b, c], buffer, out));
+}
+
+fn put(kind: u8, words: &[u64; 16], rows: &[u64], bytes: &[u8], out: &mut [u8]) {
+    match kind {
+        b'#' => packed(writer::write(crate::known_of(words), words[3] as usize, rows, bytes, out)),
+        b'$' => recorded(words, bytes, out),
+        _ => listed(listing::list(bytes, out)),
+    }
+}
+
+pub fn run(kind: u8, words: &[u64; 16], rows: &[u64], bytes: &[u8]) {
+    let mut whole = crate::filled();
+    let out = room(&mut whole, size_of(kind, words));
+    put(kind, words, rows, bytes, out);
+    hexadecimal(out);
+}

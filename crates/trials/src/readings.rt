@@ -1,0 +1,159 @@
+// The reader: of check and of read the row count or a refusal, then each row's four words; of a row taken out singly what it holds.
+ghost use mathlib.Core.Path.{_≡_};
+ghost use Prim.Native.Nat.{_≤_};
+ghost use lib.ListN.{length};
+use crate::text::newline;
+use crate::text::sized;
+use crate::text::tab;
+use console::decimal;
+use console::field;
+use console::refused;
+use console::say;
+use libc::STDOUT_FILENO;
+use packet::Checked;
+use reader::Reading;
+use rows::Content;
+use rows::Part;
+use rows::Taken;
+use tagset::TagSet;
+
+fn accepted(count: usize) {
+    sized(b"accepted", count);
+}
+
+// How many rows there are to write: none after a refusal.
+fn filled(answer: Reading) -> usize {
+    match answer {
+        Reading::Rows(filled) => {
+            accepted(filled.count);
+            filled.count
+        }
+        Reading::Refused(r) => {
+            refused(STDOUT_FILENO, r);
+            0
+        }
+    }
+}
+
+fn check(packet: &[u8], known: TagSet) {
+    say(STDOUT_FILENO, b"check\t");
+    match packet::check(packet, known) {
+        Checked::Accepted(of) => accepted(of.count),
+        Checked::Refused(r) => refused(STDOUT_FILENO, r),
+    }
+}
+
+fn read(packet: &[u8], known: TagSet, table: &mut [u64]) -> usize {
+    say(STDOUT_FILENO, b"read\t");
+    filled(reader::read(packet, known, table))
+}
+
+// A word of a row, by its column.
+fn row_word(word: u64, column: usize) {
+    decimal(STDOUT_FILENO, word);
+    if column < 3 {
+        tab();
+    } else {
+        newline();
+    }
+}
+
+fn rows_of(table: &[u64; 520], count: usize) {
+    let mut i: usize = 0;
+    while i < 512 {
+        if i / 4 < count {
+            row_word(table[i], i % 4);
+        }
+        i += 1;
+    }
+}
+
+// A table of sevens, so that a word that stays is seen.
+pub fn sevens() -> [u64; 520]
+    ensures { λ r. ⌜ 520 ≡ length r ⌝ }
+{
+    [7; 520]
+}
+
+fn reading(packet: &[u8], known: TagSet) {
+    check(packet, known);
+    let mut table = sevens();
+    let count = read(packet, known, &mut table);
+    rows_of(&table, count);
+}
+
+fn read_into(table: &mut [u64], size: u64, packet: &[u8], known: TagSet) {
+    if size <= table.len() as u64 {
+        let end = size as usize;
+        read(packet, known, &mut table[..end]);
+    }
+}
+
+fn table_word(table: &[u64], place: u64) {
+    if place < table.len() as u64 {
+        let at = place as usize;
+        field(STDOUT_FILENO, table[at]);
+    }
+}
+
+fn table_words(table: &[u64], places: &[u64]) {
+    say(STDOUT_FILENO, b"table");
+    let mut i = 0;
+    while i < places.len() {
+        table_word(table, places[i]);
+        i += 1;
+    }
+    newline();
+}
+
+fn tagged(what: &[u8], tag: u64) {
+    say(STDOUT_FILENO, what);
+    field(STDOUT_FILENO, tag);
+}
+
+fn reading_of(tag: u64, code: u64) {
+    tagged(b"reading", tag);
+    field(STDOUT_FILENO, code);
+}
+
+fn mark_of(tag: u64) {
+    tagged(b"mark", tag);
+}
+
+fn parted(what: &[u8], tag: u64, part: Part) {
+    tagged(what, tag);
+    field(STDOUT_FILENO, part.place as u64);
+    field(STDOUT_FILENO, part.length as u64);
+}
+
+fn held(tag: u64, content: Content) {
+    match content {
+        Content::Reading(code) => reading_of(tag, code),
+        Content::Mark => mark_of(tag),
+        Content::Text(part) => parted(b"text", tag, part),
+        Content::Carried(part) => parted(b"carried", tag, part),
+    }
+    newline();
+}
+
+fn taken(rows: &[u64], words: &[u64; 16], buffer: &[u8]) {
+    let known = crate::known_of(words);
+    match rows::take_row(rows, words[2] as usize, words[3] as usize, known, buffer) {
+        Taken::Is(row) => {
+            let content = row.content;
+            held(row.tag, content);
+        }
+        Taken::Refused(r) => refused(STDOUT_FILENO, r),
+    }
+}
+
+// The table is the one that is kept.
+pub fn run(kind: u8, words: &[u64; 16], list: &[u64], bytes: &[u8], table: &mut [u64]) {
+    match kind {
+        b'?' => reading(bytes, crate::known_of(words)),
+        b'r' => read_into(table, words[2], bytes, crate::known_of(words)),
+        b'w' => table_words(table, list),
+        b'y' => taken(table, words, bytes),
+        _ => taken(list, words, bytes),
+    }
+}
