@@ -2,7 +2,6 @@
 use Prim.Native.Nat.{ℕ, _+_, _/_, _%_, _^_}
 use mathlib.Core.Bool.{cond}
 use mathlib.Core.List.{List, [], _∷_}
-use lib.ListN.{length}
 use lib.Dec.{ltb, eqb}
 use Rattle.number.specs.Stored.{bytesOf}
 

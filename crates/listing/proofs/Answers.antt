@@ -71,21 +71,22 @@ rows-inside K p (i ∷ is) l =
 
 -- a receiver of the whole catalogue, with a table of its own
 module _ {K : TagSet} (k : K ≡ allTags) {p : List ℕ} {r : Reading} {t : List ℕ} (reads : Reads K p (replicate 512 0) r t) where
-  d : Reads allTags p (replicate 512 0) r t
-  d = rw (← k) reads
+  reads-all : Reads allTags p (replicate 512 0) r t
+  reads-all = rw (← k) reads
 
   pub lists-refusal : {x : Refusal} → r ≡ reading.Refused x → refusedLine (number (x .reason)) (x .place) (x .tag) ≡ listingOf p
   unfolding listingOf
   lists-refusal {x} e =
-      let q : received allTags p ≡ refusal x = received-refused allTags p (replicate 512 0) (omega arith) _ _ _ (sym (d .answer) ∙ ap readSaid e) in
+      let said = sym (reads-all .answer) ∙ ap readSaid e in
+      let q : received allTags p ≡ refusal x = received-refused allTags p (replicate 512 0) (omega arith) _ _ _ said in
       ap (textBy p) (sym q)
 
   module _ {x : Filled} (e : r ≡ reading.Rows x) where
     read : Received allTags p (replicate 512 0) x
-    read = has-received allTags p (replicate 512 0) x (sym (d .answer) ∙ ap readSaid e)
+    read = has-received allTags p (replicate 512 0) x (sym (reads-all .answer) ∙ ap readSaid e)
 
     same-rows : rowsIn 0 (x .count) t ≡ rowsOf (holds allTags) (read .items)
-    same-rows = ap (rowsIn 0 (x .count)) (d .table) ∙ read .rows
+    same-rows = ap (rowsIn 0 (x .count)) (reads-all .table) ∙ read .rows
 
     pub lists-rows : header ++ linesOf p (rowsIn 0 (x .count) t) ≡ listingOf p
     unfolding listingOf

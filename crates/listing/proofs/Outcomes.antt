@@ -19,16 +19,15 @@ use Rattle.listing.proofs.Sizes.{listing-short}
 use Rattle.listing.proofs.list.Kinds as list-kinds
 use Rattle.listing.proofs.list.Reads as list-reads
 
-lines : ℕ → Listing
-lines n = Lines (record { size = n })
+abbrev listed-so : ℕ → Listing
+listed-so n = Lines (record { size = n })
 
-as-said : (a : Listing) → made lines Refused (listSaid a) ≡ a
-unfolding lines
+as-said : (a : Listing) → made listed-so Refused (listSaid a) ≡ a
 as-said (Lines x) = refl
-as-said (Refused r) = refuse-made lines Refused r
+as-said (Refused r) = refuse-made listed-so Refused r
 
 pub listing-apart : (a b : Listing) → listSaid a ≡ listSaid b → a ≡ b
-listing-apart = told-apart lines Refused listSaid as-said
+listing-apart = told-apart listed-so Refused listSaid as-said
 
 pub list-determined : Determined 2 list-kinds.ps list-kinds.r list-reads.Post (List ℕ) (λ κs e. e .1 .0 .now)
 list-determined κs a z z′ e e′ p q = (listing-apart z z′ (p .answer ∙ sym (q .answer)), p .output ∙ sym (q .output))
