@@ -5,7 +5,8 @@ use Prim.Native.Nat.{ℕ, zero, suc, _+_, _*_, _%_, _^_, _<_, _≤_}
 use native.Mathlib.Omega.{arith}
 use native.Mathlib.Nat.{mod-eq-of-lt, pow-le-pow-right}
 use mathlib.Core.Path.{_≡_, refl, sym, ap, ap₂, _∙_}
-use mathlib.Core.Bool.{Bool}
+use mathlib.Core.Bool.{Bool, _&&_}
+use lib.Dec.{eqb}
 use mathlib.Core.List.{List, [], _∷_}
 use lib.Arith.{digits-div, digits-mod}
 use lib.ListN.{length, drop, length-drop}
@@ -23,18 +24,18 @@ use Rattle.knowing.specs.Good.{good}
 use Rattle.catalogue.proofs.Columns.{number-width as width-at-most}
 use Rattle.catalogue.specs.declared.Shape.{Shape}
 use Rattle.catalogue.specs.declared.Shape.the-variants.{Text, Number, Absent}
-use Rattle.rows.specs.Kinds.{Row, shapeFor}
-use Rattle.rows.specs.Taken.{partOf, contentOf}
+use Rattle.rows.specs.Meaning.{Row, shapeFor, markCode}
+use Rattle.rows.specs.Taken.{partOf, rowSays, contentOf}
 use Rattle.rows.specs.declared.Content.the-variants as content
 use Rattle.rows.specs.declared.Row.{Row as SingleRow}
 use Rattle.packet.specs.Pieces.{Item, pieces, walk, before, readItem}
 use Rattle.packet.specs.Headers.{headerAt, itemBy}
 use Rattle.packet.specs.Verdict.{verdict, received, checked, startOf}
-use Rattle.packet.specs.Rows.{rowBy, rowOf, rowsOf, rowsIn, bytesAt, readAnswer, readTable}
+use Rattle.packet.specs.Rows.{rowBy, rowOf, rowsOf, rowsIn, bytesAt, Filled, readAnswer, readTable}
 use Rattle.packet.specs.declared.Header.{Header}
 use Rattle.packet.proofs.Walks.{walk-end, walk-full, walk-refused, walk-item, header-lies}
 use Rattle.packet.proofs.Accepting.{accepting}
-use Rattle.laws.proofs.Structure.{passed}
+use Rattle.refusal.proofs.Answers.{passed}
 use Rattle.laws.proofs.Sent.{Lies, lies-bytes, bytes-back, SizedFor, number-width, accepted-lie, accepted-sized}
 use Rattle.laws.proofs.Tables.{has-received}
 use Rattle.walker.specs.Steps.{contentIn, valueIn, rowIn, foundBy, partBy, nextBy, foundAt, partAt, nextAt, startPlace}
@@ -57,7 +58,7 @@ handed (suc n) K p at = onFound (foundAt K p at) (partAt p at) (handed n K p (ne
 
 -- a row of the reader's, taken out singly, with the bytes at its place
 abbrev pub handedRow : TagSet → List ℕ → Row → Handed
-handedRow K p r = record { row = record { tag = r .tag; content = contentOf (shapeFor (holds K) (r .tag)) r }; value = bytesAt p r }
+handedRow K p r = record { row = record { tag = r .tag; content = contentOf (rowSays r) }; value = bytesAt p r }
 
 unfoldable pub handedRows : TagSet → List ℕ → List Row → List Handed
 handedRows K p [] = []
@@ -113,8 +114,10 @@ module _ (K : TagSet) (p : List ℕ) where
     same-part = rw (digits-div (h .place) (l .short), digits-mod (h .place) (l .short), long)
 
     same-content : (x : Shape) → shapeFor (holds K) (h .tag) ≡ x
-        → contentIn x (valueOf (valueIn p h) % 2 ^ 64) (record { place = h .place; length = h .size }) ≡ contentOf x (rowBy x (itemBy p h))
-    same-content (Number w m) e = rw (mod-eq-of-lt (fits w m e))
+        → contentIn x (valueOf (valueIn p h) % 2 ^ 64) (record { place = h .place; length = h .size }) ≡ contentOf (rowSays (rowBy x (itemBy p h)))
+    same-content (Number w m) e =
+        let c : valueOf (valueIn p h) % 2 ^ 64 ≡ valueOf (valueIn p h) = mod-eq-of-lt (fits w m e) in
+        byBool (m && eqb (valueOf (valueIn p h)) (markCode w)) (λ b. rw (c, b)) (λ b. rw (c, b))
     same-content Text e = ap content.Text same-part
     same-content Absent e = ap content.Carried same-part
 
@@ -166,10 +169,11 @@ module _ (K : TagSet) (p : List ℕ) where
     hands-walk (suc n) at is w l s =
         byLt at (length p) (λ h. hands-on n at is (hands-walk n) h (headerAt p at) refl w l s) (λ h. hands-end (suc n) at is h w)
 
-  pub hands-rows : (t : List ℕ) (n : ℕ) → Bytes p → readAnswer K p t ≡ given n → handed 129 K p (startPlace K p) ≡ handedRows K p (rowsIn 0 n (readTable K p t))
+  pub hands-rows : (t : List ℕ) (done : Filled) → Bytes p → readAnswer K p t ≡ given done
+      → handed 129 K p (startPlace K p) ≡ handedRows K p (rowsIn 0 (done .count) (readTable K p t))
   unfolding startPlace checked received
-  hands-rows t n by e =
-      let r = has-received K p t n e in
+  hands-rows t done by e =
+      let r = has-received K p t done e in
       let a = accepting K p (r .items) by (r .accepted) in
       let v = passed (good K) (verdict (holds K) p) 1 0 0 (r .accepted) .1 in
       rw (r .rows, r .accepted)

@@ -3,10 +3,12 @@
 use Prim.Native.Nat.{ℕ, _+_, _-_, _%_, _^_}
 use native.Mathlib.Omega.{arith}
 use mathlib.Core.Path.{_≡_, sym, ap, _∙_}
-use mathlib.Core.Bool.{Bool, true, false}
+use mathlib.Core.Bool.{Bool, true, false, _&&_}
 use mathlib.Core.List.{List}
 use lib.ListN.{take, drop}
+use lib.Dec.{eqb}
 use borrow.Author.Tests.{eq-eqb, ne-eqb}
+use Rattle.base.specs.Cases.{byBool}
 use Rattle.number.specs.Stored.{valueOf}
 use Rattle.tagset.specs.Sets.{holds}
 use Rattle.tagset.specs.declared.TagSet.{TagSet}
@@ -17,7 +19,7 @@ use Rattle.catalogue.specs.declared.Found.the-variants.{Known}
 use Rattle.catalogue.specs.declared.Item.{Item}
 use Rattle.catalogue.specs.declared.Shape.{Shape}
 use Rattle.catalogue.specs.declared.Shape.the-variants.{Text, Number, Absent}
-use Rattle.rows.specs.Kinds.{shapeFor, kindIn}
+use Rattle.rows.specs.Meaning.{shapeFor, markCode, kindFor}
 use Rattle.rows.specs.declared.Part.{Part}
 use Rattle.rows.specs.declared.Content.{Content}
 use Rattle.rows.specs.declared.Content.the-variants.{Mark, Reading}
@@ -43,14 +45,18 @@ pub number-shaped : (i : Item) → (i .width ≡ 0 → ⊥) → Number (i .width
 number-shaped i n = rw (ne-eqb _ _ n)
 
 -- a number is a mark or a reading
-module _ (s : Shape) (width : ℕ) (marked : Bool) (e : s ≡ Number width marked) (code : ℕ) (part : Part) (k : ℕ) (f : k ≡ kindIn s code) where
+module _ (s : Shape) (width : ℕ) (marked : Bool) (e : s ≡ Number width marked) (code : ℕ) (part : Part) (k : ℕ) (f : k ≡ kindFor s code) where
+  abbrev marked-code : Bool
+  marked-code = marked && eqb code (markCode width)
+
+  kind-is : k ≡ kindFor (Number width marked) code
+  kind-is = f ∙ ap (λ x. kindFor x code) e
+
   pub is-mark : k ≡ 2 → Mark ≡ contentIn s code part
-  is-mark g = let h : kindIn (Number width marked) code ≡ 2 = ap (λ x. kindIn x code) (sym e) ∙ (sym f ∙ g) in rw (e, eq-eqb _ _ h)
+  is-mark g = rw e (byBool marked-code (λ m. rw m) (λ m. let z : k ≡ 1 = rw m at kind-is in absurd (omega (arith, g, z))))
 
   pub is-reading : (k ≡ 2 → ⊥) → Reading code ≡ contentIn s code part
-  is-reading n =
-      let m : kindIn (Number width marked) code ≡ 2 → ⊥ = λ h. n (f ∙ (ap (λ x. kindIn x code) e ∙ h)) in
-      rw (e, ne-eqb _ _ m)
+  is-reading n = rw e (byBool marked-code (λ m. absurd (n (rw m at kind-is))) (λ m. rw m))
 
 pub row-made : (K : TagSet) (p : List ℕ) (h : Header) (s : Shape) (code : ℕ) (c : Content) → s ≡ shapeFor (holds K) (h .tag)
     → code ≡ valueOf (take (h .place + h .size - h .place) (drop (h .place) p)) % 2 ^ 64

@@ -1,20 +1,17 @@
 -- Document 01, Rows: "a walker that keeps the packet and its place and hands back each value as a part of the packet". What each step
 -- finds, for every packet and every place, also where no walker was started there.
 use Prim.Native.Nat.{ℕ, zero, suc, _+_, _%_, _^_}
-use mathlib.Core.Bool.{cond}
 use mathlib.Core.List.{List, []}
-use lib.Dec.{eqb}
 use lib.ListN.{length, take, drop}
-use Rattle.refusal.specs.Answer.{Answer, given, refused, refusal}
+use Rattle.refusal.specs.Answer.{Answer, given, refusal, map, orElse}
 use Rattle.number.specs.Stored.{valueOf}
 use Rattle.tagset.specs.Sets.{holds}
 use Rattle.tagset.specs.declared.TagSet.{TagSet}
 use Rattle.catalogue.specs.declared.Shape.{Shape}
-use Rattle.catalogue.specs.declared.Shape.the-variants.{Text, Number, Absent}
-use Rattle.rows.specs.Kinds.{shapeFor, kindIn}
+use Rattle.rows.specs.Meaning.{shapeFor, seenAs}
+use Rattle.rows.specs.Taken.{contentOf}
 use Rattle.rows.specs.declared.Part.{Part}
 use Rattle.rows.specs.declared.Content.{Content}
-use Rattle.rows.specs.declared.Content.the-variants as content
 use Rattle.rows.specs.declared.Row.{Row}
 use Rattle.packet.specs.Headers.{headerAt}
 use Rattle.packet.specs.Verdict.{checked}
@@ -31,9 +28,7 @@ knowing low high = record { low = low; high = high }
 
 -- "its tag beside one of four kinds of content"
 abbrev pub contentIn : Shape → ℕ → Part → Content
-contentIn (Number width marked) code part = cond (eqb (kindIn (Number width marked) code) 2) content.Mark (content.Reading code)
-contentIn Text code part = content.Text part
-contentIn Absent code part = content.Carried part
+contentIn shape code part = contentOf (seenAs shape code (part .length) part)
 
 abbrev pub valueIn : List ℕ → Header → List ℕ
 valueIn p h = take (h .size) (drop (h .place) p)
@@ -48,16 +43,13 @@ rowIn K p h =
 
 -- the item at a place, its value, and the place after it; where there is none, no bytes and the same place
 abbrev pub foundBy : TagSet → List ℕ → Answer Header → Found
-foundBy K p (given h) = Item (rowIn K p h)
-foundBy K p (refused n a t) = NoMore
+foundBy K p = orElse NoMore (λ h. Item (rowIn K p h))
 
 abbrev pub partBy : List ℕ → Answer Header → List ℕ
-partBy p (given h) = valueIn p h
-partBy p (refused n a t) = []
+partBy p = orElse [] (valueIn p)
 
 abbrev pub nextBy : ℕ → Answer Header → ℕ
-nextBy at (given h) = h .place + h .size
-nextBy at (refused n a t) = at
+nextBy at = orElse at (λ h. h .place + h .size)
 
 unfoldable pub foundAt : TagSet → List ℕ → ℕ → Found
 foundAt K p at = foundBy K p (headerAt p at)
@@ -71,16 +63,14 @@ nextAt p at = nextBy at (headerAt p at)
 -- "Starting the walker gives the reader's refusals but for 2": good or the refusal, and where the walk begins; after a refusal that is
 -- the packet's end, where there are no more
 abbrev pub beginBy : Answer Accepted → Answer (Unit {0})
-beginBy (given a) = given tt
-beginBy (refused n p t) = refused n p t
+beginBy = map (λ _. tt)
 
 abbrev pub beginSaid : Begin → Answer (Unit {0})
 beginSaid begin.Good = given tt
 beginSaid (begin.Refused r) = refusal r
 
 abbrev pub placeBy : List ℕ → Answer Accepted → ℕ
-placeBy p (given a) = a .from
-placeBy p (refused n a t) = length p
+placeBy p = orElse (length p) (λ a. a .from)
 
 unfoldable pub startPlace : TagSet → List ℕ → ℕ
 startPlace K p = placeBy p (checked K p)

@@ -7,7 +7,7 @@ ghost use lib.ListN.{length};
 ghost use Rattle.tagset.specs.Sets.{holds};
 ghost use Rattle.catalogue.specs.Shapes.{isMarked};
 ghost use Rattle.catalogue.specs.declared.Shape.the-variants.{Number};
-ghost use Rattle.rows.specs.Kinds.{shapeFor};
+ghost use Rattle.rows.specs.Meaning.{shapeFor};
 ghost use Rattle.packet.specs.Verdict.{checked};
 ghost use Rattle.walker.specs.Passes.{Starts, Passes};
 ghost use Rattle.walker.specs.Steps.{knowing, contentIn, rowIn, foundAt, partAt, nextAt, beginBy, beginSaid, startPlace, placeNumber};
@@ -106,7 +106,7 @@ fn content_of(shape: Shape, code: u64, part: Part) -> Content
             width: _,
             marked: _,
         } => {
-            if rows::kind_of(shape, code) == 2 {
+            if rows::kind_of(shape, code) == rows::MARK {
                 return Content::Mark;
             }
             Content::Reading(code)
