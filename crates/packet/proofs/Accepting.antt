@@ -61,6 +61,7 @@ placed-given js is noVersion e = not-given e
 
 pub record Accepting (K : TagSet) (p : List ℕ) (is : List Item) : Type 0 where
   pub known : good K ≡ true
+  pub found : structure p ≡ given is
   pub short : length p ≤ 8192
   pub fills : walk 128 (startOf 0 is) (drop (startOf 0 is) p) ≡ given is
   pub clean : judge (holds K) (pieces is) ≡ fine
@@ -74,6 +75,7 @@ accepting K p is by e =
     let found : structure p ≡ given is = v .first ∙ ap given (q .0) in
     record {
       known = g .0;
+      found = found;
       short = structure-short p is found;
       fills = structure-walk p by is found;
       clean = ap (λ x. judge (holds K) (pieces x)) (sym (q .0)) ∙ q .1;

@@ -1,5 +1,6 @@
 -- Document 01, Packet: what makes bytes a packet, whoever reads it: refusals 3 to 11, or the items.
 use Prim.Native.Nat.{ℕ, _+_}
+use mathlib.Core.Path.{_≡_}
 use mathlib.Core.Bool.{Bool, true, false, cond, _&&_}
 use mathlib.Core.List.{List, [], _∷_}
 use lib.ListN.{length, take, drop}
@@ -57,3 +58,9 @@ closed p is = then (rightEnds (endsOf p is)) (λ _. then (lastSum p is) (λ _. g
 
 unfoldable pub structure : List ℕ → Answer (List Item)
 structure p = then (frame p) (λ from. then (walk 128 from (drop from p)) (closed p))
+
+-- a packet whose structure is right, and whose items begin at a place
+pub record ItemsFrom (p : List ℕ) (from : ℕ) : Type 0 where
+  pub items : List Item
+  pub found : structure p ≡ given items
+  pub walked : walk 128 from (drop from p) ≡ given items

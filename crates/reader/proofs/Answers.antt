@@ -15,11 +15,12 @@ use Rattle.tagset.specs.Sets.{holds}
 use Rattle.tagset.specs.declared.TagSet.{TagSet}
 use Rattle.knowing.specs.Good.{good}
 use Rattle.packet.specs.Pieces.{Item}
+use Rattle.packet.specs.Structure.{ItemsFrom}
 use Rattle.packet.specs.Verdict.{bodyOf, received, checked}
 use Rattle.packet.specs.Rows.{rowsOf, words, lentVerdict, filledBy, readAnswer, tableBy, readTable}
 use Rattle.packet.specs.declared.Accepted.{Accepted}
 use Rattle.packet.proofs.Accepting.{Accepting, accepting, walk-few}
-use Rattle.reader.specs.Reads.{Reads, readSaid, Accepts, orNone, itemsOf}
+use Rattle.reader.specs.Reads.{Reads, readSaid, AcceptsFrom, orNone, itemsOf}
 use Rattle.reader.specs.declared.Reading.{Reading}
 use Rattle.reader.specs.declared.Reading.the-variants.{Rows, Refused}
 use Rattle.reader.proofs.Laws.{table-is}
@@ -64,10 +65,11 @@ module _ (K : TagSet) (p t : List ℕ) where
             let a : Accepting K p (k .items) = accepting K p (k .items) by (k .accepts) in
             rw (ap (λ x. x .count) (k .body)) (walk-few 128 _ _ (k .items) (a .fills))
 
-        pub may-fill : Accepts K p (b .from)
+        pub may-fill : AcceptsFrom K p (b .from)
         may-fill =
             let a : Accepting K p (k .items) = accepting K p (k .items) by (k .accepts) in
-            record { items = k .items; accepted = k .accepts; walked = rw (ap (λ x. x .from) (k .body)) (a .fills) }
+            let begins : ItemsFrom p (b .from) = record { items = k .items; found = a .found; walked = rw (ap (λ x. x .from) (k .body)) (a .fills) } in
+            record { begins = begins; accepted = k .accepts }
 
         pub filled : (t′ t″ : List ℕ) → t′ ≡ sets t 0 (words (rowsOf (holds K) (itemsOf K p))) → t″ ≡ sets t′ (4 * b .count) (replicate (512 - 4 * b .count) 0)
             → Reads K p t (Rows (record { count = b .count })) t″

@@ -2,13 +2,13 @@
 use Prim.Native.Nat.{ℕ, _*_, _≤_}
 use mathlib.Core.Path.{_≡_}
 use mathlib.Core.List.{List, [], _∷_}
-use lib.ListN.{drop}
 use lib.Seq.{sets}
 use Rattle.refusal.specs.Answer.{Answer, given, refusal, orElse}
 use Rattle.tagset.specs.declared.TagSet.{TagSet}
 use Rattle.catalogue.specs.declared.Shape.{Shape}
 use Rattle.catalogue.specs.declared.Shape.the-variants.{Text, Number, Absent}
-use Rattle.packet.specs.Pieces.{Item, walk}
+use Rattle.packet.specs.Pieces.{Item}
+use Rattle.packet.specs.Structure.{ItemsFrom}
 use Rattle.packet.specs.Verdict.{received}
 use Rattle.packet.specs.Rows.{Row, Filled, readAnswer, readTable}
 use Rattle.reader.specs.declared.Reading.{Reading}
@@ -40,7 +40,6 @@ abbrev pub itemsOf : TagSet → List ℕ → List Item
 itemsOf K p = orNone (received K p)
 
 -- a packet that a receiver accepts, whose items begin at a place
-pub record Accepts (K : TagSet) (p : List ℕ) (from : ℕ) : Type 0 where
-  pub items : List Item
-  pub accepted : received K p ≡ given items
-  pub walked : walk 128 from (drop from p) ≡ given items
+pub record AcceptsFrom (K : TagSet) (p : List ℕ) (from : ℕ) : Type 0 where
+  pub begins : ItemsFrom p from
+  pub accepted : received K p ≡ given (begins .items)

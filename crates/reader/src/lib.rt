@@ -10,7 +10,7 @@ ghost use Rattle.tagset.specs.Sets.{holds};
 ghost use Rattle.catalogue.specs.Column.{shapeColumn};
 ghost use Rattle.packet.specs.Headers.{itemBy};
 ghost use Rattle.packet.specs.Rows.{meaningOf, codeOf, shapeFor, rowOf, rowsOf, words};
-ghost use Rattle.reader.specs.Reads.{Reads, readSaid, putRow, Narrow, Accepts, itemsOf};
+ghost use Rattle.reader.specs.Reads.{Reads, readSaid, putRow, Narrow, AcceptsFrom, itemsOf};
 use catalogue::Shape;
 use packet::Checked;
 use packet::Header;
@@ -98,7 +98,7 @@ fn clear(table: &mut [u64], from: usize)
 
 // The rows of an accepted packet, one after another.
 fn fill(packet: &[u8], from: usize, known: TagSet, table: &mut [u64])
-    requires { ⌜ Accepts known (now packet) from × (512 ≤ length (now table)) ⌝ }
+    requires { ⌜ AcceptsFrom known (now packet) from × (512 ≤ length (now table)) ⌝ }
     ensures { λ _. ⌜ now (table .exit) ≡ sets (now (table .entry)) 0 (words (rowsOf (holds known) (itemsOf known (now (packet .entry))))) ⌝ }
 {
     let column = catalogue::shapes();

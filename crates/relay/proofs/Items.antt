@@ -13,7 +13,7 @@ use Rattle.refusal.specs.Answer.{given}
 use Rattle.number.specs.Stored.{Bytes}
 use Rattle.ber.specs.Written.{tagBytes, lengthBytes}
 use Rattle.packet.specs.Pieces.{pieces}
-use Rattle.packet.specs.Structure.{structure}
+use Rattle.packet.specs.Structure.{structure, ItemsFrom}
 use Rattle.packet.specs.Headers.{itemBy, headerAt, stepSaid}
 use Rattle.packet.specs.Encode.{piecesIn, itemBytes, itemsBytes, canonical}
 use Rattle.packet.specs.declared.Header.{Header}
@@ -24,8 +24,8 @@ use Rattle.laws.proofs.Structure.{structure-formed}
 use Rattle.laws.proofs.Written.{length-item, length-encode}
 use Rattle.laws.proofs.Forward.{canonical-shorter}
 use Rattle.writer.proofs.Pieces.{piece-room, piece-put}
-use Rattle.relay.specs.Sends.{itemsFor, ItemsFrom}
-use Rattle.relay.proofs.Walking.{Ahead, no-more, Next, next}
+use Rattle.relay.specs.Sends.{itemsFor}
+use Rattle.packet.proofs.Ahead.{Ahead, no-more, Next, next}
 
 -- the item that a header stands for, within the packet
 module _ (p : List ℕ) (i : Header) (inside : i .place + i .size ≤ length p) where

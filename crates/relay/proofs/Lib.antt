@@ -1,5 +1,4 @@
 pub mod Sending
-pub mod Walking
 pub mod Items
 pub mod Anew
 pub mod Steps

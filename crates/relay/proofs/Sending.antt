@@ -35,7 +35,8 @@ use Rattle.outgoing.specs.Outgoing.{outgoing}
 use Rattle.outgoing.proofs.Given.{Sent, Outgoes, outgoes-given}
 use Rattle.writer.specs.Writes.{written, writeAnswer, writeOutput}
 use Rattle.relay.specs.Forwards.{Forwards, ownTable, forwardAnswer, forwardOutput, forwardSaid}
-use Rattle.relay.specs.Sends.{ItemsFrom, sentAnswer, sentOutput, Sends}
+use Rattle.packet.specs.Structure.{ItemsFrom}
+use Rattle.relay.specs.Sends.{sentAnswer, sentOutput, Sends}
 use Rattle.relay.specs.declared.Forwarding.{Forwarding}
 
 table-long : (K : Knowing) (is : List Item) (t : List ℕ) → 4 * length is ≤ length (tableOf K is t)

@@ -6,8 +6,7 @@ use mathlib.Core.List.{List, _++_}
 use lib.Dec.{ltb}
 use lib.ListN.{length, drop}
 use Rattle.refusal.specs.Answer.{Answer, given, refused}
-use Rattle.packet.specs.Pieces.{Item, walk}
-use Rattle.packet.specs.Structure.{structure}
+use Rattle.packet.specs.Structure.{structure, ItemsFrom}
 use Rattle.packet.specs.Encode.{piecesIn, itemsBytes, canonical}
 use Rattle.writer.specs.declared.Written.{Written}
 use Rattle.relay.specs.Forwards.{forwardSaid}
@@ -16,12 +15,6 @@ use Rattle.relay.specs.declared.Forwarding.{Forwarding}
 -- the items of a packet, as they are sent on
 abbrev pub itemsFor : List ℕ → List ℕ
 itemsFor p = itemsBytes (piecesIn (structure p))
-
--- a packet whose structure is right, and whose items begin at a place
-pub record ItemsFrom (p : List ℕ) (from : ℕ) : Type 0 where
-  pub items : List Item
-  pub found : structure p ≡ given items
-  pub walked : walk 128 from (drop from p) ≡ given items
 
 -- all that is sent on has so many bytes, so many of them the items', and there is room for it
 pub record Sendable (p : List ℕ) (from size items room : ℕ) : Type 0 where

@@ -16,10 +16,10 @@ use Rattle.packet.specs.Judge.{fine, judge}
 use Rattle.packet.specs.Headers.{headerAt, stepSaid}
 use Rattle.packet.specs.Rows.{rowsOf, words}
 use Rattle.packet.proofs.Walks.{Lies, header-lies}
-use Rattle.packet.proofs.Accepting.{Accepting, accepting, AllFit, fine-fit}
+use Rattle.packet.proofs.Accepting.{Accepting, accepting, AllFit, fine-fit, walk-few}
 use Rattle.reader.specs.Reads.{orNone, itemsOf, putRow}
 use Rattle.reader.proofs.Laws.{value-length}
-use Rattle.reader.proofs.Filling.{Left, none-left, one-left, not-refused, Next, next-item}
+use Rattle.reader.proofs.Filling.{Left, none-left, none-refused, Next, next-item}
 use Rattle.reader.proofs.fill.Statement.{statement}
 use Rattle.reader.proofs.fill.Tie as tie
 
@@ -53,15 +53,15 @@ loop-holds : tie.Need-loop-holds Inv-loop μ-loop
 loop-holds c =
     let s = c .before .before .before in
     let a = s .pre .0 in
-    let k : Accepting (s .args .known) (s .args .packet .now) (a .items) = accepting _ _ _ (record { byte = λ i. c .before .before .shared-slice-known .given i .fits }) (a .accepted) in (
+    let b = a .begins in
+    let k : Accepting (s .args .known) (s .args .packet .now) (b .items) = accepting _ _ _ (record { byte = λ i. c .before .before .shared-slice-known .given i .fits }) (a .accepted) in (
       c .shapes .ensures,
       refl,
       k .short,
       record {
-        rest = a .items;
-        walks = a .walked;
-        fits = fits (s .args .known) (a .items) (k .clean);
-        few = omega arith;
+        ahead = record { most = 128; items = b .items; walks = b .walked };
+        fits = fits (s .args .known) (b .items) (k .clean);
+        few = omega (arith, walk-few 128 _ _ (b .items) (b .walked));
         stored = ap (λ r. sets (s .args .table .now) 0 (words (rowsOf (holds (s .args .known)) (orNone r)))) (sym (a .accepted));
       },
     )
@@ -77,7 +77,7 @@ same-length c = c .before .before .before .before .loop .inv .1
 
 returns : tie.Need-returns Inv-loop μ-loop
 returns c =
-    not-refused _ _ _ _ _ _ (c .before .before .before .before .loop .inv .3) (c .before .before .before .loop-test .taken) _ _ _
+    none-refused _ _ _ _ _ _ (c .before .before .before .before .loop .inv .3) (c .before .before .before .loop-test .taken) _ _ _
     (sym (c .before .before .item-at .ensures) ∙ ap stepSaid (c .enum-told .given .1))
 
 enum-known-item : tie.Need-enum-known-item Inv-loop μ-loop
@@ -97,14 +97,14 @@ row-of-requires c κs =
 put-row-requires : tie.Need-put-row-requires Inv-loop μ-loop
 put-row-requires c κs =
     let l = c .before .before .before .before .before .before .before .before .loop in
-    let few = one-left _ _ _ _ _ _ (l .inv .3) (c .before .before .before .before .before .before .before .loop-test .taken) in
+    let few = next (c .before .before .before) .one-left in
     (few, omega (arith, few, l .inv .1, c .before .before .before .before .before .before .before .before .before .before .before .before .pre .1))
 
 add-here : tie.Need-add-here Inv-loop μ-loop
 add-here c = omega (arith, lies (c .before .before .before .before .before .before .before) .inside, c .before .before .before .before .before .before .before .before .before .before .before .before .loop .inv .2)
 
 add-n : tie.Need-add-n Inv-loop μ-loop
-add-n c = omega (arith, one-left _ _ _ _ _ _ (c .before .before .before .before .before .before .before .before .before .before .before .before .loop .inv .3) (c .before .before .before .before .before .before .before .before .before .before .before .loop-test .taken))
+add-n c = omega (arith, next (c .before .before .before .before .before .before .before) .one-left)
 
 loop-less : tie.Need-loop-less Inv-loop μ-loop
 loop-less c = omega (arith, lies (c .before .before .before .before .before .before .before))

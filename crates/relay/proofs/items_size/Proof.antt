@@ -8,7 +8,7 @@ use borrow.Author.Needs.{needs}
 use Rattle.number.proofs.Laws.{bytes-lent}
 use Rattle.packet.specs.Headers.{stepSaid}
 use Rattle.relay.proofs.Items.{Sizing, item-lies, all-counted, sum-done, sum-small, sum-more}
-use Rattle.relay.proofs.Walking.{not-refused}
+use Rattle.packet.proofs.Ahead.{not-refused}
 use Rattle.relay.proofs.items_size.Statement.{statement}
 use Rattle.relay.proofs.items_size.Tie as tie
 

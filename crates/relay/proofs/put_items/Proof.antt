@@ -11,7 +11,7 @@ use Rattle.number.proofs.Laws.{bytes-lent}
 use Rattle.packet.specs.Headers.{stepSaid}
 use Rattle.relay.specs.Sends.{itemsFor}
 use Rattle.relay.proofs.Items.{Waiting, item-lies, all-waiting, put-done, put-room, put-more}
-use Rattle.relay.proofs.Walking.{not-refused}
+use Rattle.packet.proofs.Ahead.{not-refused}
 use Rattle.relay.proofs.put_items.Statement.{statement}
 use Rattle.relay.proofs.put_items.Tie as tie
 
