@@ -138,10 +138,10 @@ module _ {M : Type 1} (𝓤 : URA M) (H : Heap 𝓤) (A : Atoms 𝓤) (W : Given
 
     -- at the loop's head: `_4` is i, and `_3` holds u
     abbrev At : ℕ → Val → List (Item 𝓤)
-    At i u = ‵ (froom R′.mir l₆ 0) ∷ ‵ (fdies R′.mir l₆) ∷ ‵ (froom tyBool l₅ 0) ∷ ‵ (fdies tyBool l₅) ∷ ‵ (fat fullShare word l₄ 0 (vint w64 i)) ∷ ‵
-        (fdies word l₄)
-        ∷ ‵ (fat fullShare arr l₃ 0 u) ∷ ‵ (fdies arr l₃) ∷ ‵ (fat fullShare word l₂ 0 (vint w64 n)) ∷ ‵ (fdies word l₂) ∷ ‵ (fat fullShare slice l₁ 0 v) ∷ ‵
-        (fdies slice l₁)
+    At i u = ‵ (froom R′.mir l₆ 0) ∷ ‵ (fdies R′.mir l₆) ∷ ‵ (froom tyBool l₅ 0) ∷ ‵ (fdies tyBool l₅) ∷ ‵ (fat fullShare word l₄ 0 (vint w64 i))
+        ∷ ‵ (fdies word l₄)
+        ∷ ‵ (fat fullShare arr l₃ 0 u) ∷ ‵ (fdies arr l₃) ∷ ‵ (fat fullShare word l₂ 0 (vint w64 n)) ∷ ‵ (fdies word l₂) ∷ ‵ (fat fullShare slice l₁ 0 v)
+        ∷ ‵ (fdies slice l₁)
         ∷ ‵ (froom arr l₀ 0) ∷ ‵ (fdies arr l₀) ∷ Tok ∷ ‵ Own ∷ []
 
     -- when the loop is left, the rest of the body runs

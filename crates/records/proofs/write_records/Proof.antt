@@ -198,8 +198,8 @@ module _ {M : Type 1} (𝓤 : URA M) (H : Heap 𝓤) (A : Atoms 𝓤) (W : Given
     walk ps px py =
         qed W ((‵ (flft κ₀ q₀) ⊛ ‵ (flft κ₁ q₁) ⊛ ‵ (flft κ₂ q₂) ⊛ ‵ ftrue) ∷ ‵ (owns (K.the-row ∷ ShrSlice (named 0) κ₀ R.the-row ∷ ShrSlice (named 1) κ₁ u8
         ∷ MutSlice (named 2) κ₂ u8 ∷ []) a at) ∷ []) ∵ enter ! C Λ code.function (vk ∷ vs ∷ vx ∷ vy ∷ []) _ $
-        alloc1 ! (λ l₀. alloc1 ! (λ l₁. alloc1 ! (λ l₂. alloc1 ! (λ l₃. alloc1 ! (λ l₄. alloc1 !
-        (λ l₅. alloc1 ! (λ l₆. alloc1 ! (λ l₇. alloc1 ! (λ l₈. alloc1 ! (λ l₉. alloc0 ! $ params1 ! $
+        alloc1 ! (λ l₀. alloc1 ! (λ l₁. alloc1 ! (λ l₂. alloc1 ! (λ l₃. alloc1 ! (λ l₄.
+        alloc1 ! (λ l₅. alloc1 ! (λ l₆. alloc1 ! (λ l₇. alloc1 ! (λ l₈. alloc1 ! (λ l₉. alloc0 ! $ params1 ! $
         pass1 ! (init ! 16 refl (LL.lawful K.the-type K′.the-laws 𝓤 H A W .typed k _ isk .0)) $
         pass1 ! (init ! 14 refl (shr-slice-lawful 𝓤 H A W (named 0) κ₀ R.the-row .typed s (vs ∷ []) ps .0)) $
         pass1 ! (init ! 12 refl (shr-slice-lawful 𝓤 H A W (named 1) κ₁ u8 .typed x (vx ∷ []) px .0)) $

@@ -155,8 +155,8 @@ module _ {M : Type 1} (𝓤 : URA M) (H : Heap 𝓤) (A : Atoms 𝓤) (W : Given
     walk px py =
         qed W (Toks ∷ ‵ (owns (K.the-row ∷ AR ∷ ShrSlice (named 0) κ₀ u8 ∷ MutSlice (named 1) κ₁ u8 ∷ []) a at) ∷ []) ∵
         enter ! C Λ code.function (vk ∷ u ∷ vx ∷ vy ∷ []) _ $
-        alloc1 ! (λ l₀. alloc1 ! (λ l₁. alloc1 ! (λ l₂. alloc1 ! (λ l₃. alloc1 ! (λ l₄. alloc1 !
-        (λ l₅. alloc1 ! (λ l₆. alloc1 ! (λ l₇. alloc1 ! (λ l₈. alloc1 ! (λ l₉. alloc0 ! $ params1 ! $
+        alloc1 ! (λ l₀. alloc1 ! (λ l₁. alloc1 ! (λ l₂. alloc1 ! (λ l₃. alloc1 ! (λ l₄.
+        alloc1 ! (λ l₅. alloc1 ! (λ l₆. alloc1 ! (λ l₇. alloc1 ! (λ l₈. alloc1 ! (λ l₉. alloc0 ! $ params1 ! $
         pass1 ! (init ! 16 refl (LL.lawful K.the-type K′.the-laws 𝓤 H A W .typed k _ isk .0)) $ pass1 ! (init ! 14 refl typed) $
         pass1 ! (init ! 12 refl (shr-slice-lawful 𝓤 H A W (named 0) κ₀ u8 .typed x (vx ∷ []) px .0)) $
         pass1 ! (init ! 10 refl (mut-slice-lawful 𝓤 H A W (named 1) κ₁ u8 .typed y (vy ∷ []) py .0)) $ pass0 ! $

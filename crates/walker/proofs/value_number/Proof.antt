@@ -187,12 +187,12 @@ module _ {M : Type 1} (𝓤 : URA M) (H : Heap 𝓤) (A : Atoms 𝓤) (G : Given
         ∷ (wt, l₁₂) ∷ []
 
     abbrev At : ℕ → List (Item 𝓤)
-    At i = ‵ (froom wt l₁₂ 0) ∷ ‵ (fdies wt l₁₂) ∷ ‵ (froom kt l₁₁ 0) ∷ ‵ (fdies kt l₁₁) ∷ ‵ (froom wt l₁₀ 0) ∷ ‵ (fdies wt l₁₀) ∷ ‵ (froom kt l₉ 0) ∷ ‵
-        (fdies kt l₉) ∷ ‵ (froom tyBool l₈ 0) ∷ ‵ (fdies tyBool l₈)
+    At i = ‵ (froom wt l₁₂ 0) ∷ ‵ (fdies wt l₁₂) ∷ ‵ (froom kt l₁₁ 0) ∷ ‵ (fdies kt l₁₁) ∷ ‵ (froom wt l₁₀ 0) ∷ ‵ (fdies wt l₁₀) ∷ ‵ (froom kt l₉ 0)
+        ∷ ‵ (fdies kt l₉) ∷ ‵ (froom tyBool l₈ 0) ∷ ‵ (fdies tyBool l₈)
         ∷ ‵ (froom st l₇ 0) ∷ ‵ (fdies st l₇) ∷ ‵ (fat fullShare word l₆ 0 (vint w64 i)) ∷ ‵ (fdies word l₆) ∷ ‵ (fat fullShare wt l₅ 0 (wv (moved (pl i))))
         ∷ ‵ (fdies wt l₅)
-        ∷ ‵ (fat fullShare word l₄ 0 (vint w64 k)) ∷ ‵ (fdies word l₄) ∷ ‵ (fat fullShare word l₃ 0 (vint w64 high)) ∷ ‵ (fdies word l₃) ∷ ‵
-        (fat fullShare word l₂ 0 (vint w64 low)) ∷ ‵ (fdies word l₂)
+        ∷ ‵ (fat fullShare word l₄ 0 (vint w64 k)) ∷ ‵ (fdies word l₄) ∷ ‵ (fat fullShare word l₃ 0 (vint w64 high)) ∷ ‵ (fdies word l₃)
+        ∷ ‵ (fat fullShare word l₂ 0 (vint w64 low)) ∷ ‵ (fdies word l₂)
         ∷ ‵ (fat fullShare slice l₁ 0 v) ∷ ‵ (fdies slice l₁) ∷ ‵ (froom slice l₀ 0) ∷ ‵ (fdies slice l₀) ∷ Tok ∷ ‵ OwnS ∷ []
 
     abbrev Left : Out → SProp 𝓤
@@ -271,13 +271,13 @@ module _ {M : Type 1} (𝓤 : URA M) (H : Heap 𝓤) (A : Atoms 𝓤) (G : Given
 
     -- once the arguments are stored: the walker is started, and the loop run
     abbrev Entry : List (Item 𝓤)
-    Entry = ‵ (froom wt l₁₂ 0) ∷ ‵ (fdies wt l₁₂) ∷ ‵ (froom kt l₁₁ 0) ∷ ‵ (fdies kt l₁₁) ∷ ‵ (froom wt l₁₀ 0) ∷ ‵ (fdies wt l₁₀) ∷ ‵ (froom kt l₉ 0) ∷ ‵
-        (fdies kt l₉) ∷ ‵ (froom tyBool l₈ 0) ∷ ‵ (fdies tyBool l₈)
+    Entry = ‵ (froom wt l₁₂ 0) ∷ ‵ (fdies wt l₁₂) ∷ ‵ (froom kt l₁₁ 0) ∷ ‵ (fdies kt l₁₁) ∷ ‵ (froom wt l₁₀ 0) ∷ ‵ (fdies wt l₁₀) ∷ ‵ (froom kt l₉ 0)
+        ∷ ‵ (fdies kt l₉) ∷ ‵ (froom tyBool l₈ 0) ∷ ‵ (fdies tyBool l₈)
         ∷ ‵ (froom st l₇ 0) ∷ ‵ (fdies st l₇) ∷ ‵ (froom word l₆ 0) ∷ ‵ (fdies word l₆) ∷ ‵ (froom wt l₅ 0) ∷ ‵ (fdies wt l₅)
-        ∷ ‵ (fat fullShare word l₄ 0 (vint w64 k)) ∷ ‵ (fdies word l₄) ∷ ‵ (fat fullShare word l₃ 0 (vint w64 high)) ∷ ‵ (fdies word l₃) ∷ ‵
-        (fat fullShare word l₂ 0 (vint w64 low)) ∷ ‵ (fdies word l₂)
-        ∷ ‵ (fat fullShare slice l₁ 0 v) ∷ ‵ (fdies slice l₁) ∷ ‵ (froom slice l₀ 0) ∷ ‵ (fdies slice l₀) ∷ Tok ∷ ‵
-        (owns (ShrSlice (named 0) κ u8 ∷ u64 ∷ u64 ∷ usize ∷ []) args at) ∷ []
+        ∷ ‵ (fat fullShare word l₄ 0 (vint w64 k)) ∷ ‵ (fdies word l₄) ∷ ‵ (fat fullShare word l₃ 0 (vint w64 high)) ∷ ‵ (fdies word l₃)
+        ∷ ‵ (fat fullShare word l₂ 0 (vint w64 low)) ∷ ‵ (fdies word l₂)
+        ∷ ‵ (fat fullShare slice l₁ 0 v) ∷ ‵ (fdies slice l₁) ∷ ‵ (froom slice l₀ 0) ∷ ‵ (fdies slice l₀) ∷ Tok
+        ∷ ‵ (owns (ShrSlice (named 0) κ u8 ∷ u64 ∷ u64 ∷ usize ∷ []) args at) ∷ []
 
     begins : Triple 𝓤 (𝓣 .C #walker·start) (Start 𝓤 H A mem run) → Sq G Entry (runs C Λ En mir.t-1 (atRet En Post))
     begins known-start =
@@ -304,8 +304,8 @@ module _ {M : Type 1} (𝓤 : URA M) (H : Heap 𝓤) (A : Atoms 𝓤) (G : Given
   walk 𝓣 known-start known-next p gl gh gk =
       qed G (Tok ∷ ‵ (owns (ShrSlice (named 0) κ u8 ∷ u64 ∷ u64 ∷ usize ∷ []) args at) ∷ []) ∵
       enter ! (𝓣 .C) (𝓣 .Λ) code.function (v ∷ vint w64 low ∷ vint w64 high ∷ vint w64 k ∷ []) _ $
-      alloc1 ! (λ l₀. alloc1 ! (λ l₁. alloc1 ! (λ l₂. alloc1 ! (λ l₃. alloc1 ! (λ l₄. alloc1 !
-      (λ l₅. alloc1 ! (λ l₆. alloc1 ! (λ l₇. alloc1 ! (λ l₈. alloc1 ! (λ l₉. alloc1 ! (λ l₁₀. alloc1 ! (λ l₁₁. alloc1 ! (λ l₁₂. alloc0 ! $ params1 ! $
+      alloc1 ! (λ l₀. alloc1 ! (λ l₁. alloc1 ! (λ l₂. alloc1 ! (λ l₃. alloc1 ! (λ l₄.
+      alloc1 ! (λ l₅. alloc1 ! (λ l₆. alloc1 ! (λ l₇. alloc1 ! (λ l₈. alloc1 ! (λ l₉. alloc1 ! (λ l₁₀. alloc1 ! (λ l₁₁. alloc1 ! (λ l₁₂. alloc0 ! $ params1 ! $
       pass1 ! (init ! 22 refl (shr-slice-lawful 𝓤 H A G (named 0) κ u8 .typed s (v ∷ []) p .0)) $ pass1 ! (init ! 20 refl (tt, record { fits = gl })) $
       pass1 ! (init ! 18 refl (tt, record { fits = gh })) $ pass1 ! (init ! 16 refl (tt, record { fits = gk })) $ pass0 ! $
       begins 𝓣 known-next p gl gh gk l₀ l₁ l₂ l₃ l₄ l₅ l₆ l₇ l₈ l₉ l₁₀ l₁₁ l₁₂ known-start)))))))))))))
