@@ -16,38 +16,26 @@ fn whole(word: u64) -> i64 {
     !((0xFFFF_FFFF_FFFF_FFFF - word) as i64)
 }
 
-fn hex(code: u64, digits: usize) {
-    io::print_hex(STDOUT_FILENO, code, digits);
-}
-
-fn coded(answer: ToCode, digits: usize) {
-    match answer {
+// A value, and its code in so many digits.
+fn value(tag: u64, v: i64, digits: usize) {
+    signed(STDOUT_FILENO, v);
+    tab();
+    match scale::to_code(tag, v) {
         ToCode::Is(c) => {
-            hex(c.code, digits);
+            io::print_hex(STDOUT_FILENO, c.code, digits);
             newline();
         }
         ToCode::Refused(r) => refused(STDOUT_FILENO, r),
     }
 }
 
-// A value, and its code in so many digits.
-fn value(tag: u64, v: i64, digits: usize) {
-    signed(STDOUT_FILENO, v);
+fn code(tag: u64, code: u64, digits: usize) {
+    io::print_hex(STDOUT_FILENO, code, digits);
     tab();
-    coded(scale::to_code(tag, v), digits);
-}
-
-fn housed(tag: u64, answer: ToHouse, digits: usize) {
-    match answer {
+    match scale::to_house(tag, code) {
         ToHouse::Is(h) => value(tag, h.value, digits),
         ToHouse::Refused(r) => refused(STDOUT_FILENO, r),
     }
-}
-
-fn code(tag: u64, code: u64, digits: usize) {
-    hex(code, digits);
-    tab();
-    housed(tag, scale::to_house(tag, code), digits);
 }
 
 pub fn run(kind: u8, words: &[u64; 16]) {

@@ -1,5 +1,4 @@
 // Heights and corners, and the walker.
-ghost use Prim.Native.Nat.{_≤_};
 use crate::text::hexadecimal;
 use crate::text::tab;
 use crate::text::valued;
@@ -35,12 +34,9 @@ fn height(answer: Height) {
     }
 }
 
-fn sensor(packet: &[u8], known: TagSet) {
+fn heights(packet: &[u8], known: TagSet) {
     say(STDOUT_FILENO, b"sensor height\t");
     height(ground::sensor_height(packet, known));
-}
-
-fn frame_centre(packet: &[u8], known: TagSet) {
     say(STDOUT_FILENO, b"frame centre height\t");
     height(ground::frame_centre_height(packet, known));
 }
@@ -95,7 +91,6 @@ pub fn run(kind: u8, words: &[u64; 16], packet: &[u8]) {
         return;
     }
     let known = crate::known_of(words);
-    sensor(packet, known);
-    frame_centre(packet, known);
+    heights(packet, known);
     corners(packet, known);
 }

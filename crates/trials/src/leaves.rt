@@ -54,18 +54,14 @@ fn number_of(width: usize, marked: bool) {
     }
 }
 
-fn shaped(answer: Shape) {
-    match answer {
+fn shape(tag: u64) {
+    let column = catalogue::shapes();
+    decimal(STDOUT_FILENO, tag);
+    match catalogue::shape_at(&column, tag) {
         Shape::Text => say(STDOUT_FILENO, b" text"),
         Shape::Number { width, marked } => number_of(width, marked),
         Shape::Absent => say(STDOUT_FILENO, b" carried"),
     }
-}
-
-fn shape(tag: u64) {
-    let column = catalogue::shapes();
-    decimal(STDOUT_FILENO, tag);
-    shaped(catalogue::shape_at(&column, tag));
     newline();
 }
 

@@ -38,10 +38,8 @@ mod readings;
 mod text;
 
 use console::Word;
-use console::say;
 use console::word_of;
 use libc::STDIN_FILENO;
-use libc::STDOUT_FILENO;
 use tagset::TagSet;
 
 // The first place from here on that holds a byte of this range; else the end.

@@ -1,6 +1,5 @@
 // The reader: of check and of read the row count or a refusal, then each row's four words; of a row taken out singly what it holds.
 ghost use mathlib.Core.Path.{_≡_};
-ghost use Prim.Native.Nat.{_≤_};
 ghost use lib.ListN.{length};
 use crate::text::newline;
 use crate::text::sized;
@@ -75,17 +74,18 @@ pub fn sevens() -> [u64; 520]
     [7; 520]
 }
 
-fn reading(packet: &[u8], known: TagSet) {
+fn reading(packet: &[u8], words: &[u64; 16]) {
+    let known = crate::known_of(words);
     check(packet, known);
     let mut table = sevens();
     let count = read(packet, known, &mut table);
     rows_of(&table, count);
 }
 
-fn read_into(table: &mut [u64], size: u64, packet: &[u8], known: TagSet) {
-    if size <= table.len() as u64 {
-        let end = size as usize;
-        read(packet, known, &mut table[..end]);
+fn read_into(table: &mut [u64], words: &[u64; 16], packet: &[u8]) {
+    let end = words[2] as usize;
+    if end <= table.len() {
+        read(packet, crate::known_of(words), &mut table[..end]);
     }
 }
 
@@ -150,8 +150,8 @@ fn taken(rows: &[u64], words: &[u64; 16], buffer: &[u8]) {
 // The table is the one that is kept.
 pub fn run(kind: u8, words: &[u64; 16], list: &[u64], bytes: &[u8], table: &mut [u64]) {
     match kind {
-        b'?' => reading(bytes, crate::known_of(words)),
-        b'r' => read_into(table, words[2], bytes, crate::known_of(words)),
+        b'?' => reading(bytes, words),
+        b'r' => read_into(table, words, bytes),
         b'w' => table_words(table, list),
         b'y' => taken(table, words, bytes),
         _ => taken(list, words, bytes),

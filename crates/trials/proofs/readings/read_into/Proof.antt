@@ -6,6 +6,12 @@ use lib.Seq.{length-take-le}
 use Rattle.trials.proofs.readings.read_into.Statement.{statement}
 use Rattle.trials.proofs.readings.read_into.Tie as tie
 
+element-copy-out-end : tie.Need-element-copy-out-end
+element-copy-out-end c = search needs
+
+known-of-requires : tie.Need-known-of-requires
+known-of-requires c κs = search needs
+
 slice-relend-prefix-read : tie.Need-slice-relend-prefix-read
 slice-relend-prefix-read c = search needs
 
@@ -28,6 +34,8 @@ pub read-into-spec : {M : Type 1} → statement M
 read-into-spec =
     tie.close
     (tie.spec
+    element-copy-out-end
+    known-of-requires
     slice-relend-prefix-read
     slice-aggregate-read
     read-requires
