@@ -65,5 +65,5 @@ sensor-height-determined κs a z z′ e e′ p q = height-apart z z′ (p ∙ sy
 pub frame-centre-height-determined : Answered 1 centre-kinds.ps centre-kinds.r centre-reads.Post
 frame-centre-height-determined κs a z z′ e e′ p q = height-apart z z′ (p ∙ sym q)
 
-pub corner-determined : Answered 1 corner-kinds.ps corner-kinds.r corner-reads.Post
-corner-determined κs a z z′ e e′ p q = corner-apart z z′ (p ∙ sym q)
+pub corner-at-determined : Answered 1 corner-kinds.ps corner-kinds.r corner-reads.Post
+corner-at-determined κs a z z′ e e′ p q = corner-apart z z′ (p ∙ sym q)
