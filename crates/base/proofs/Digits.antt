@@ -8,7 +8,7 @@ use mathlib.Core.List.{List, [], _++_, append-nil}
 use lib.ListN.{length, take, set, length-set}
 use lib.Seq.{take-length}
 use Rattle.base.specs.Digits.{digitsIn}
-use Rattle.base.specs.Parts.{set-before}
+use Rattle.base.proofs.Parts.{set-before}
 
 pub length-digits : (base : ℕ) (shown : ℕ → ℕ) (k x : ℕ) → length (digitsIn base shown k x) ≡ k
 length-digits base shown zero x = refl

@@ -9,7 +9,7 @@ use lib.ListN.{length, take, drop, length-take, length-append}
 use lib.Seq.{take-at}
 use lib.Dec.{ltb, leb}
 use borrow.Author.Tests.{ltb-true, ltb-false, leb-false, lt-ltb, le-ltb, lt-leb}
-use Rattle.base.specs.Cases.{byBool, byLt}
+use Rattle.base.proofs.Cases.{byBool, byLt}
 use Rattle.number.specs.Stored.{Bytes, valueOf, bytesOf}
 use Rattle.number.proofs.Laws.{bytes-none, bytes-cons, bytes-tail, bytes-take, bytes-bytesOf, bytes-back, length-bytesOf, spelled, value-small}
 use Rattle.ber.specs.Read.{Read, got, broken, tagThird, tagSecond, readTag, readLength}

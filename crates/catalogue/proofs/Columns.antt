@@ -7,11 +7,12 @@ use mathlib.Core.Bool.{Bool, true, false, _||_}
 use lib.Dec.{leb, eqb}
 use lib.ListN.{getD}
 use borrow.Author.Tests.{leb-true, eqb-true, ne-eqb, le-leb, lt-leb}
-use Rattle.base.specs.Cases.{byLt, clash}
-use Rattle.base.specs.Every.{allBelow, all-below}
+use Rattle.base.proofs.Cases.{byLt, clash}
+use Rattle.base.specs.Every.{allBelow}
+use Rattle.base.proofs.Every.{all-below}
 use Rattle.catalogue.specs.Items.{groups, member, itemIn, itemOf}
 use Rattle.catalogue.specs.Shapes.{shapeBy, shapeOf, shapeAllows, codesLimited, codeAllowed}
-use Rattle.catalogue.specs.Column.{columnFrom, shapeColumn, shapeFrom, shapeIn}
+use Rattle.catalogue.specs.code.Column.{columnFrom, shapeColumn, shapeFrom, shapeIn}
 use Rattle.catalogue.specs.declared.Shape.{Shape}
 use Rattle.catalogue.specs.declared.Shape.the-variants.{Text, Number, Absent}
 use Rattle.catalogue.proofs.Laws.{item-beyond}

@@ -13,8 +13,9 @@ use lib.ListN.{getD}
 use mir.Syntax.{w64}
 use mir.Val.{SFits}
 use borrow.Author.Tests.{ltb-true, ne-eqb}
-use Rattle.base.specs.Cases.{byLt, clash}
-use Rattle.base.specs.Every.{all, allBelow, all-below, both-left, both-right}
+use Rattle.base.proofs.Cases.{byLt, clash}
+use Rattle.base.specs.Every.{all, allBelow}
+use Rattle.base.proofs.Every.{all-below, both-left, both-right}
 use Rattle.tagset.specs.Sets.{holds, countBelow}
 use Rattle.tagset.proofs.Laws.{Words, holds-none}
 use Rattle.catalogue.specs.Items.{Group, groups, member, itemIn, itemOf}

@@ -5,8 +5,8 @@ use mathlib.Core.Bool.{Bool, true, false, _&&_}
 use lib.Dec.{eqb}
 use lib.IntN.{ℤ, pos, negsuc}
 use borrow.Author.Tests.{eqb-true}
-use Rattle.base.specs.Cases.{clash}
-use Rattle.base.specs.Every.{both-left, both-right}
+use Rattle.base.proofs.Cases.{clash}
+use Rattle.base.proofs.Every.{both-left, both-right}
 use Rattle.catalogue.specs.declared.Sign.{Sign}
 use Rattle.catalogue.specs.declared.Sign.the-variants.{Unsigned, Signed, Marked}
 use Rattle.catalogue.specs.declared.Item.{Item}

@@ -1,4 +1,4 @@
 pub mod Items
 pub mod Shapes
 pub mod Rows
-pub mod Column
+pub mod code

@@ -7,7 +7,7 @@ ghost use mir.Val.{SFits};
 ghost use Rattle.catalogue.specs.Items.{itemOf};
 ghost use Rattle.catalogue.specs.Rows.{rows, allTags, signBy};
 ghost use Rattle.catalogue.specs.Shapes.{shapeAllows, codesLimited, codeAllowed};
-ghost use Rattle.catalogue.specs.Column.{shapeColumn, shapeIn};
+ghost use Rattle.catalogue.specs.code.Column.{shapeColumn, shapeIn};
 use tagset::TagSet;
 
 // How the codes of a number are read: as they stand, in two's complement, or in two's complement with the lowest one a mark.

@@ -6,7 +6,7 @@ use native.Mathlib.Nat.{add-zero, zero-add}
 use mathlib.Core.Path.{_≡_, refl, ap, sym}
 use mathlib.Core.List.{List, [], _∷_, _++_}
 use lib.ListN.{length, getD, drop}
-use Rattle.base.specs.Parts.{cons-at, nil-at}
+use Rattle.base.proofs.Parts.{cons-at, nil-at}
 use Rattle.checksum.specs.Sum.{weighed, checksumOf}
 
 pub weighed-parity : (p q : ℕ) (l : List ℕ) → p % 2 ≡ q % 2 → weighed p l ≡ weighed q l

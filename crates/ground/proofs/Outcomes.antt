@@ -1,7 +1,7 @@
 -- Each public function's contract determines its answer.
 -- Assumes nothing.
 use mathlib.Core.Path.{_≡_, ap, sym, _∙_}
-use Rattle.base.specs.Cases.{never}
+use Rattle.base.proofs.Cases.{never}
 use Rattle.base.specs.Determined.{Answered}
 use Rattle.refusal.proofs.Laws.{refusal-apart}
 use Rattle.ground.specs.Said.{heightSaid, cornerSaid}

@@ -9,8 +9,9 @@ use mathlib.Core.Logic.{_⊎_, inl, inr, ⊎-elim}
 use mathlib.Core.List.{List, [], _∷_}
 use lib.Dec.{ltb, eqb}
 use borrow.Author.Tests.{eqb-true, eq-eqb, ne-eqb}
-use Rattle.base.specs.Cases.{byBool, byEq, clash}
-use Rattle.base.specs.Every.{Each, both-left, both-right}
+use Rattle.base.proofs.Cases.{byBool, byEq, clash}
+use Rattle.base.specs.Every.{Each}
+use Rattle.base.proofs.Every.{both-left, both-right}
 use Rattle.refusal.specs.Answer.{given}
 use Rattle.number.specs.Stored.{Bytes}
 use Rattle.tagset.specs.Sets.{holds}
@@ -23,13 +24,13 @@ use Rattle.catalogue.specs.declared.Found.{Found}
 use Rattle.catalogue.specs.declared.Found.the-variants.{Known, Absent as Unlisted}
 use Rattle.catalogue.specs.declared.Shape.the-variants.{Number}
 use Rattle.rows.specs.Meaning.{Row, shapeFor, markCode, kindFor, isNumber as number}
-use Rattle.rows.specs.Taken.{spotLength, rowGood, tagGood, rowSays}
+use Rattle.rows.specs.Taken.{spotLength, rowGood, tagGood, rowSays, GoodRow}
 use Rattle.packet.specs.Pieces as pieces
 use Rattle.packet.specs.Judge.{Knowing}
 use Rattle.packet.specs.Verdict.{received}
 use Rattle.packet.specs.Rows.{rowsOf}
 use Rattle.refusal.proofs.Answers.{passed}
-use Rattle.laws.proofs.Rows.{GoodRow, rows-good}
+use Rattle.laws.proofs.Rows.{rows-good}
 use Rattle.scale.specs.Scales.{scaled, codes, half, isNumber}
 use Rattle.scale.specs.Conversions.{houseOf}
 use Rattle.scale.proofs.Given.{Scaled, scaled-rule, every-code-converts}

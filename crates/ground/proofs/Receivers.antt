@@ -6,7 +6,7 @@ use mathlib.Core.Path.{_≡_, refl}
 use mathlib.Core.Bool.{true}
 use mathlib.Core.List.{List, [], _∷_}
 use borrow.Author.Tests.{ne-eqb}
-use Rattle.base.specs.Cases.{byEq}
+use Rattle.base.proofs.Cases.{byEq}
 use Rattle.base.specs.Every.{Each}
 use Rattle.refusal.specs.Answer.{given}
 use Rattle.tagset.specs.Sets.{holds}

@@ -8,7 +8,7 @@ use lib.Dec.{eqb}
 use lib.IntN.{ℤ, _+ℤ_}
 use mir.Syntax.{w64}
 use mir.Val.{SFits}
-use Rattle.base.specs.Cases.{byBool}
+use Rattle.base.proofs.Cases.{byBool}
 use Rattle.refusal.specs.Answer.{Answer, given, refused}
 use Rattle.rows.specs.Meaning.{Meaning, reading, mark, text, carried, isNumber, Row}
 use Rattle.rows.specs.Taken.{rowSays, rowAt}

@@ -6,8 +6,9 @@ use native.Mathlib.Omega.{arith}
 use lib.Dec.{eqb}
 use borrow.Author.Tests.{ne-eqb}
 use mathlib.Core.Bool.{Bool, true, not, _||_}
-use Rattle.base.specs.Cases.{byBool, byLt, byEq, clash, unless, unless-true}
-use Rattle.base.specs.Every.{allBelow, all-below, below-all, both-left, both-right, both-true}
+use Rattle.base.proofs.Cases.{byBool, byLt, byEq, clash, unless, unless-true}
+use Rattle.base.specs.Every.{allBelow}
+use Rattle.base.proofs.Every.{all-below, below-all, both-left, both-right, both-true}
 use Rattle.tagset.specs.Sets.{holds, within}
 use Rattle.tagset.specs.declared.TagSet.{TagSet}
 use Rattle.tagset.proofs.Laws.{Words, Included, holds-none, within-included, included-within}

@@ -9,7 +9,7 @@ use mathlib.Core.List.{List, [], _∷_}
 use lib.ListN.{length}
 use lib.Dec.{eqb}
 use borrow.Author.Tests.{eqb-true, eqb-false, eq-eqb, ne-eqb}
-use Rattle.base.specs.Cases.{byBool, clash, never}
+use Rattle.base.proofs.Cases.{byBool, clash, never}
 use Rattle.number.specs.Stored.{valueOf}
 use Rattle.catalogue.specs.Shapes.{lengthAllowed, codeAllowed}
 use Rattle.packet.specs.Pieces.{Piece}

@@ -9,7 +9,7 @@ use lib.ListN.{length, take, drop, length-append, length-take, length-drop, take
 use lib.Seq.{take-at, drop-at, drop-drop}
 use lib.Dec.{ltb, leb}
 use borrow.Author.Tests.{ltb-false, leb-true, lt-ltb, le-leb}
-use Rattle.base.specs.Cases.{byBool, never}
+use Rattle.base.proofs.Cases.{byBool, never}
 use Rattle.refusal.specs.Answer.{Answer, given, refused}
 use Rattle.number.specs.Stored.{Bytes}
 use Rattle.number.proofs.Laws.{bytes-drop}

@@ -10,8 +10,9 @@ use lib.ListN.{length}
 use lib.Dec.{eqb}
 use borrow.Author.Tests.{le-ltb}
 use lib.Arith.{digits-mod}
-use Rattle.base.specs.Cases.{byBool, never, clash}
-use Rattle.base.specs.Every.{Each, both-left}
+use Rattle.base.proofs.Cases.{byBool, never, clash}
+use Rattle.base.specs.Every.{Each}
+use Rattle.base.proofs.Every.{both-left}
 use Rattle.refusal.specs.Answer.{Answer, given, refused, map}
 use Rattle.number.specs.Stored.{Bytes, valueOf, bytesOf}
 use Rattle.catalogue.specs.Items.{groups, member, itemIn, itemOf}
@@ -27,14 +28,14 @@ use Rattle.packet.specs.Judge.{Knowing, Judged, fine, faulty, noVersion, judge}
 use Rattle.packet.specs.Verdict.{placed, verdict}
 use Rattle.packet.specs.Encode.{encode, canonical}
 use Rattle.rows.specs.Meaning.{shapeFor, meaningOf, kindOf, kindFor, codeOf, isNumber, saidBy, Row, markCode}
-use Rattle.rows.specs.Taken.{spotLength, rowSays}
+use Rattle.rows.specs.Taken.{spotLength, rowSays, GoodRow}
 use Rattle.rows.proofs.Laws.{kind-seen}
 use Rattle.packet.specs.Rows.{rowOf, rowsOf, bytesAt, pieceOf, piecesOf, tableOf, lentVerdict, Filled, filledBy, readAnswer, tableBy, readTable, rowsIn, SameRow, SameTable, noRows, oneMore}
 use Rattle.laws.proofs.Accepted.{accepts, accepting}
 use Rattle.laws.proofs.Written.{sumPiece, SameBut, atLast, further, but-length, judged-alike, length-pieces, Sendable, ReadBack, read-back, written-accepted}
 use Rattle.laws.proofs.Forward.{canonical-is, canonical-back}
 use Rattle.laws.proofs.Tables.{has-read, rows-in-table}
-use Rattle.laws.proofs.Rows.{GoodRow, Made, all-made, rows-good}
+use Rattle.laws.proofs.Rows.{Made, all-made, rows-good}
 use Rattle.laws.proofs.Sent.{Lies, formed-lie, bytes-back, rows-pieces, sentOn, sent-canonical}
 
 -- a number's row points at nothing

@@ -6,7 +6,7 @@ use native.Mathlib.Omega.{arith}
 use mathlib.Core.Path.{_≡_, refl, sym, _∙_}
 use mathlib.Core.Bool.{true, false}
 use mathlib.Core.List.{List, [], _∷_}
-use Rattle.base.specs.Cases.{byBool, byEq, clash, never}
+use Rattle.base.proofs.Cases.{byBool, byEq, clash, never}
 use Rattle.refusal.specs.Answer.{Answer, given, refused, then}
 use Rattle.tagset.specs.Sets.{holds}
 use Rattle.tagset.specs.declared.TagSet.{TagSet}

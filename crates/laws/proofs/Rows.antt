@@ -9,8 +9,9 @@ use lib.ListN.{length, length-take, length-drop}
 use lib.Arith.{digits-div, digits-mod}
 use lib.Dec.{ltb, leb, eqb}
 use borrow.Author.Tests.{ltb-true, leb-true, eqb-true, lt-ltb, le-leb, eq-eqb, ne-eqb}
-use Rattle.base.specs.Cases.{byBool, byEq, never}
-use Rattle.base.specs.Every.{Each, both-left, both-right, both-true}
+use Rattle.base.proofs.Cases.{byBool, byEq, never}
+use Rattle.base.specs.Every.{Each}
+use Rattle.base.proofs.Every.{both-left, both-right, both-true}
 use Rattle.refusal.specs.Answer.{given}
 use Rattle.number.specs.Stored.{Bytes, valueOf, bytesOf}
 use Rattle.number.proofs.Laws.{bits-bytes, bytes-back, length-bytesOf, value-small}
@@ -20,7 +21,7 @@ use Rattle.catalogue.specs.declared.Shape.{Shape}
 use Rattle.catalogue.specs.declared.Shape.the-variants.{Text, Number, Absent}
 use Rattle.rows.specs.Meaning.{Row, shapeFor, meaningOf, kindOf, kindFor, codeOf}
 use Rattle.rows.proofs.Laws.{kind-seen, code-seen}
-use Rattle.rows.specs.Taken.{spotPlace, spotLength, tagGood, codeGood, contentGood, rowGood}
+use Rattle.rows.specs.Taken.{spotPlace, spotLength, tagGood, codeGood, contentGood, rowGood, GoodRow}
 use Rattle.packet.specs.Pieces.{Item, pieces}
 use Rattle.packet.specs.Judge.{Knowing}
 use Rattle.packet.specs.Verdict.{verdict}
@@ -30,10 +31,6 @@ use Rattle.laws.proofs.Accepted.{accepts}
 use Rattle.laws.proofs.Written.{Tagged}
 use Rattle.laws.proofs.Forward.{items-tagged}
 use Rattle.laws.proofs.Sent.{Lies, lies-bytes, SizedFor, number-width, accepted-sized, accepted-lie}
-
--- a row that is not bad, over a buffer
-abbrev pub GoodRow : Knowing → List ℕ → Row → Type 0
-GoodRow K b r = rowGood (shapeFor K (r .tag)) (length b) r ≡ true
 
 -- a row as a receiver gives it to the piece that it stands for; the checksum's code is any
 pub record Made (K : Knowing) (b : List ℕ) (r : Row) : Type 0 where

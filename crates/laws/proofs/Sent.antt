@@ -10,7 +10,7 @@ use lib.ListN.{length, take, drop}
 use lib.Seq.{take-at, drop-drop}
 use lib.Arith.{digits-div, digits-mod}
 use borrow.Author.Tests.{eqb-true}
-use Rattle.base.specs.Cases.{byBool, never}
+use Rattle.base.proofs.Cases.{byBool, never}
 use Rattle.base.specs.Every.{Each}
 use Rattle.refusal.specs.Answer.{given}
 use Rattle.number.specs.Stored.{Bytes, valueOf}

@@ -35,7 +35,8 @@ use Rattle.rows.specs.declared.Filled.{Filled}
 use Rattle.spelling.specs.Spelling.{decimal}
 use Rattle.listing.specs.Lines.{header, field, linesOf, refusedWord, refusedLine}
 use Rattle.listing.specs.Listing.{textBy, listingOf}
-use Rattle.listing.specs.Lists.{textAnswer, listSaid, Lists, InPacket, Listable}
+use Rattle.listing.specs.Lists.{textAnswer, listSaid, Lists}
+use Rattle.listing.specs.code.Listable.{InPacket, Listable}
 use Rattle.listing.specs.declared.Listing.{Listing}
 use Rattle.listing.proofs.Sizes.{rows-short}
 

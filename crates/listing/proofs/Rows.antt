@@ -14,7 +14,7 @@ use Rattle.rows.specs.Taken.{rowAt}
 use Rattle.packet.specs.Rows.{rowsIn}
 use Rattle.laws.proofs.Tables.{rows-from, rows-none}
 use Rattle.listing.specs.Lines.{lineOf, linesOf}
-use Rattle.listing.specs.Lists.{InPacket, Listable}
+use Rattle.listing.specs.code.Listable.{InPacket, Listable}
 
 -- rows are left, and their lines are so long
 pub record Uncounted (p : List ℕ) (rs : List Row) (size total : ℕ) : Type 0 where

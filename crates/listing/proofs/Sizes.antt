@@ -7,7 +7,7 @@ use mathlib.Core.List.{List, [], _∷_}
 use lib.ListN.{length, length-append, length-take}
 use lib.Arith.{digits-div}
 use lib.IntN.{ℤ, pos, negsuc}
-use Rattle.base.specs.Cases.{byEq}
+use Rattle.base.proofs.Cases.{byEq}
 use Rattle.base.specs.Every.{Each}
 use Rattle.refusal.specs.Answer.{Answer, given, refused}
 use Rattle.number.specs.Stored.{Bytes}

@@ -9,7 +9,7 @@ use lib.Seq.{length-take-le}
 use mir.Syntax.{w64}
 use mir.Val.{SFits, toZ, ofZ}
 use mir.Facts.{toZ-ofZ}
-use Rattle.base.specs.Parts.{part-lent}
+use Rattle.base.proofs.Parts.{part-lent}
 use Rattle.rows.specs.Meaning.{Meaning, mapMeaning, Row}
 use Rattle.rows.specs.Taken.{spotPlace, spotLength, rowSays}
 use Rattle.rows.specs.declared.Part.{Part}
@@ -23,7 +23,7 @@ use Rattle.scale.specs.declared.ToHouse.the-variants.{Is}
 use Rattle.spelling.specs.Spelling.{decimal, whole, hex}
 use Rattle.spelling.proofs.Laws.{hex-length}
 use Rattle.listing.specs.Lines.{numberWord, markWord, textWord, carriedWord, field, numberText, meaningText, bytesIn, contentText, lineOf}
-use Rattle.listing.specs.Lists.{InPacket}
+use Rattle.listing.specs.code.Listable.{InPacket}
 
 -- a reading, by what the conversion answers
 module _ (tag code : ℕ) {h : ToHouse} (e : houseSaid h ≡ toHouse tag code) where

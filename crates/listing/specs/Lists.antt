@@ -1,16 +1,12 @@
 -- A text put at the front of a lent output: what is answered, and what is left there.
-use Prim.Native.Nat.{ℕ, _+_, _≤_}
+use Prim.Native.Nat.{ℕ}
 use mathlib.Core.Path.{_≡_}
 use mathlib.Core.Bool.{cond}
 use mathlib.Core.List.{List}
 use lib.ListN.{length}
 use lib.Dec.{ltb}
-use Rattle.base.specs.Every.{Each}
 use Rattle.base.specs.Putting.{putInto}
 use Rattle.refusal.specs.Answer.{Answer, given, refused, refusal}
-use Rattle.rows.specs.Meaning.{Row}
-use Rattle.rows.specs.Taken.{spotPlace, spotLength}
-use Rattle.listing.specs.Lines.{linesOf}
 use Rattle.listing.specs.declared.Listing.{Listing}
 use Rattle.listing.specs.declared.Listing.the-variants.{Lines, Refused}
 
@@ -26,11 +22,3 @@ listSaid (Refused r) = refusal r
 pub record Lists (text o : List ℕ) (r : Listing) (o′ : List ℕ) : Type 0 where
   pub answer : listSaid r ≡ textAnswer text o
   pub output : o′ ≡ putInto o 0 text
-
--- a row whose value lies in the packet, and rows whose lines are within the bound
-abbrev pub InPacket : List ℕ → Row → Type 0
-InPacket p r = spotPlace (r .spot) + spotLength (r .spot) ≤ length p
-
-pub record Listable (p : List ℕ) (rs : List Row) : Type 0 where
-  pub inside : Each (InPacket p) rs
-  pub short : length (linesOf p rs) ≤ 21760

@@ -13,7 +13,8 @@ use mathlib.Core.Bool.{true}
 use borrow.Author.Tests.{ltb-true}
 use mir.Syntax.{w8}
 use mir.Val.{Fits}
-use Rattle.base.specs.Every.{all, both-left, both-right}
+use Rattle.base.specs.Every.{all}
+use Rattle.base.proofs.Every.{both-left, both-right}
 use Rattle.base.proofs.Digits.{length-digits}
 use lib.Arith.{digits-lt, digits-div, mod-mul}
 use Rattle.number.specs.Stored.{Bytes, valueFrom, valueOf, bytesOf}

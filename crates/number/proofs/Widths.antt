@@ -7,7 +7,7 @@ use mathlib.Core.Path.{_≡_, refl, ap, sym, _∙_}
 use mathlib.Core.List.{List, [], _∷_}
 use lib.ListN.{length, getD, take, drop, length-drop}
 use lib.Seq.{take-all, drop-drop, length-take-le}
-use Rattle.base.specs.Parts.{cons-at}
+use Rattle.base.proofs.Parts.{cons-at}
 use Rattle.number.specs.Stored.{valueFrom, valueOf}
 
 -- what the bytes before say counts 256 times for each byte after

@@ -8,20 +8,19 @@ use mathlib.Core.List.{List, [], _∷_, _++_}
 use lib.ListN.{length}
 use lib.Dec.{ltb}
 use borrow.Author.Tests.{ltb-false, le-ltb}
-use Rattle.base.specs.Cases.{never}
+use Rattle.base.proofs.Cases.{never}
 use Rattle.base.specs.Every.{Each}
 use Rattle.refusal.specs.Answer.{given}
 use Rattle.refusal.proofs.Answers.{not-given, given-same, passed, missed, then-given}
 use Rattle.tagset.specs.Sets.{holds}
 use Rattle.tagset.specs.declared.TagSet.{TagSet}
 use Rattle.knowing.specs.Good.{good}
-use Rattle.rows.specs.Taken.{countGood}
+use Rattle.rows.specs.Taken.{countGood, GoodRow}
 use Rattle.packet.specs.Pieces.{Piece}
 use Rattle.packet.specs.Ends.{rightEnds}
 use Rattle.packet.specs.Judge.{Knowing, Judged, fine, faulty, noVersion, judge}
 use Rattle.packet.specs.Encode.{encode}
 use Rattle.packet.specs.Rows.{rowsIn, piecesOf}
-use Rattle.laws.proofs.Rows.{GoodRow}
 use Rattle.packet.proofs.Closing.{RightEnds, ends-right, right-ends}
 use Rattle.outgoing.specs.Outgoing.{rightSet, rightCount, rightRows, rightSize, lastPiece, endsOf, byRow, sendable, outgoing}
 use Rattle.outgoing.proofs.Stages.{all-good, good-all}

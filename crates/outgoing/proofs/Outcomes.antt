@@ -1,10 +1,10 @@
 -- The public function's contract determines its answer.
 -- Assumes nothing.
 use mathlib.Core.Path.{_≡_, ap, sym, _∙_}
-use Rattle.base.specs.Cases.{never}
+use Rattle.base.proofs.Cases.{never}
 use Rattle.base.specs.Determined.{Answered}
 use Rattle.refusal.proofs.Laws.{refusal-apart}
-use Rattle.outgoing.specs.Staged.{outgoingSaid}
+use Rattle.outgoing.specs.Said.{outgoingSaid}
 use Rattle.outgoing.specs.declared.Outgoing.{Outgoing}
 use Rattle.outgoing.specs.declared.Outgoing.the-variants.{Fits, Refused}
 use Rattle.outgoing.proofs.check_rows.Kinds as check-rows-kinds

@@ -7,7 +7,7 @@ use mathlib.Core.Bool.{true, false}
 use mathlib.Core.List.{List, [], _∷_}
 use lib.ListN.{length, length-append}
 use borrow.Author.Tests.{ne-eqb}
-use Rattle.base.specs.Cases.{byBool, byLt, byEq}
+use Rattle.base.proofs.Cases.{byBool, byLt, byEq}
 use Rattle.base.specs.Every.{Each}
 use Rattle.refusal.specs.Answer.{Answer, given, refused, map, then}
 use Rattle.refusal.proofs.Answers.{passed}
@@ -19,7 +19,7 @@ use Rattle.knowing.specs.Good.{good}
 use Rattle.catalogue.specs.Items.{groups, member, itemIn, itemOf}
 use Rattle.catalogue.specs.Shapes.{shapeOf, codeAllowed}
 use Rattle.rows.specs.Meaning.{Row, shapeFor}
-use Rattle.rows.specs.Taken.{spotLength, rowGood, tagShown, countGood, rowAt}
+use Rattle.rows.specs.Taken.{spotLength, rowGood, tagShown, countGood, rowAt, GoodRow}
 use Rattle.packet.specs.Pieces.{Piece}
 use Rattle.packet.specs.Ends.{rightEnds}
 use Rattle.packet.specs.Judge.{Knowing, has, among, Fault, clean, wrong, faultOf, Judged, fine, faulty, noVersion, later, onFault, judgeFrom, judge}
@@ -28,9 +28,9 @@ use Rattle.packet.specs.Rows.{rowsIn, pieceOf, piecesOf}
 use Rattle.packet.proofs.Tallies.{SeenBy, none-seen, one-seen}
 use Rattle.packet.proofs.Faults.{sixty-three}
 use Rattle.laws.proofs.Written.{length-item, length-encode}
-use Rattle.laws.proofs.Rows.{GoodRow, good-made}
+use Rattle.laws.proofs.Rows.{good-made}
 use Rattle.outgoing.specs.Outgoing.{rightRows, rightSize, lastPiece, endsOf, byRow, sendable, outgoing, packedOf}
-use Rattle.outgoing.specs.Staged.{rowsSize, packedBy, rowFault, unlessFaulty, noTags, rowsJudged, endsIn, sizedIn}
+use Rattle.outgoing.specs.code.Staged.{rowsSize, packedBy, rowFault, unlessFaulty, noTags, rowsJudged, endsIn, sizedIn}
 
 -- no row is bad
 module _ (K : Knowing) (b : List ℕ) where

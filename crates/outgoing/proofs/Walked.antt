@@ -7,7 +7,7 @@ use mathlib.Core.Bool.{true, false, cond}
 use mathlib.Core.List.{List}
 use lib.ListN.{length}
 use lib.Dec.{ltb, eqb}
-use Rattle.base.specs.Cases.{byBool}
+use Rattle.base.proofs.Cases.{byBool}
 use Rattle.refusal.specs.Answer.{given, refused}
 use Rattle.ber.specs.Written.{tagBytes, lengthBytes}
 use Rattle.ber.proofs.Laws.{sized}
@@ -20,7 +20,7 @@ use Rattle.packet.specs.Judge.{Knowing, Fault, clean, wrong}
 use Rattle.laws.proofs.Tables.{rows-from, rows-none}
 use Rattle.packet.specs.Rows.{rowsIn}
 use Rattle.outgoing.specs.Outgoing.{rightRows}
-use Rattle.outgoing.specs.Staged.{rowSize, rowsSize, rowFault, unlessFaulty, rowsJudged}
+use Rattle.outgoing.specs.code.Staged.{rowSize, rowsSize, rowFault, unlessFaulty, rowsJudged}
 
 -- how many bytes the items of rows can have
 tag-most : (t : ℕ) → length (tagBytes t) ≤ 3

@@ -1,2 +1,3 @@
 pub mod Outgoing
-pub mod Staged
+pub mod Said
+pub mod code

@@ -7,7 +7,7 @@ use Rattle.refusal.specs.Answer.{Answer, given, refusal}
 use Rattle.refusal.specs.declared.Refusal.{Refusal}
 use Rattle.tagset.specs.declared.TagSet.{TagSet}
 use Rattle.catalogue.specs.Rows.{allTags}
-use Rattle.packet.specs.Concluded.{checkSaid}
+use Rattle.packet.specs.Said.{checkSaid}
 use Rattle.packet.specs.Verdict.{checked}
 use Rattle.packet.specs.declared.Checked.{Checked}
 use Rattle.packet.specs.declared.Accepted.{Accepted}

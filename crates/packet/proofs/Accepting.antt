@@ -8,7 +8,7 @@ use mathlib.Core.List.{List, [], _∷_}
 use lib.Dec.{ltb, eqb}
 use lib.ListN.{length, take, drop}
 use borrow.Author.Tests.{ltb-true, ltb-false}
-use Rattle.base.specs.Cases.{byBool, byLt}
+use Rattle.base.proofs.Cases.{byBool, byLt}
 use Rattle.refusal.specs.Answer.{Answer, given, refused, then}
 use Rattle.refusal.proofs.Answers.{not-given, given-same, passed, then-given}
 use Rattle.number.specs.Stored.{Bytes}

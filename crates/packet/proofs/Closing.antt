@@ -8,7 +8,7 @@ use mathlib.Core.List.{List}
 use lib.Dec.{eqb}
 use lib.ListN.{length, take, drop, length-take, length-drop}
 use borrow.Author.Tests.{eqb-true, eq-eqb, ne-eqb}
-use Rattle.base.specs.Every.{both-left, both-right}
+use Rattle.base.proofs.Every.{both-left, both-right}
 use Rattle.refusal.specs.Answer.{Answer, given, refused}
 use Rattle.refusal.proofs.Answers.{passed}
 use Rattle.number.specs.Stored.{Bytes, valueOf}
@@ -16,7 +16,7 @@ use Rattle.number.proofs.Laws.{bytes-take, bytes-drop, value-small}
 use Rattle.checksum.specs.Sum.{checksumOf}
 use Rattle.packet.specs.Ends.{rightEnds}
 use Rattle.packet.specs.Structure.{rightSum}
-use Rattle.packet.specs.Concluded.{sumBy}
+use Rattle.packet.specs.code.Concluded.{sumBy}
 use Rattle.packet.specs.declared.Header.{Header}
 use Rattle.packet.specs.declared.Ends.{Ends}
 

@@ -7,8 +7,8 @@ use mathlib.Core.Bool.{Bool, true, false, not, _&&_}
 use mathlib.Core.List.{List}
 use lib.ListN.{length, take, drop, length-take, length-drop}
 use borrow.Author.Tests.{ne-eqb}
-use Rattle.base.specs.Cases.{byBool, byEq, clash}
-use Rattle.base.specs.Every.{both-left, both-right}
+use Rattle.base.proofs.Cases.{byBool, byEq, clash}
+use Rattle.base.proofs.Every.{both-left, both-right}
 use Rattle.number.specs.Stored.{Bytes, valueOf}
 use Rattle.number.proofs.Laws.{bytes-take, bytes-drop, value-small}
 use Rattle.tagset.specs.Sets.{holds}
@@ -19,8 +19,8 @@ use Rattle.catalogue.specs.declared.Shape.{Shape}
 use Rattle.catalogue.proofs.Columns.{codes-free}
 use Rattle.packet.specs.Pieces.{Item}
 use Rattle.packet.specs.Judge.{Fault, clean, faultBy, looked, faultOf}
-use Rattle.packet.specs.Headers.{itemBy}
-use Rattle.packet.specs.Tally.{Met, none, met, faultIn, plainIn, firstFault}
+use Rattle.packet.specs.code.Headers.{itemBy}
+use Rattle.packet.specs.code.Tally.{Met, none, met, faultIn, plainIn, firstFault}
 use Rattle.packet.specs.declared.Header.{Header}
 
 pub sixty-three : shapeOf 63 ≡ shapeOf 34

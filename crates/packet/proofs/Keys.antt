@@ -9,8 +9,8 @@ use lib.Dec.{eqb}
 use lib.ListN.{length, take, drop, length-take, length-drop}
 use lib.Seq.{take-take, take-add, drop-at}
 use borrow.Author.Tests.{eq-eqb, eqb-true}
-use Rattle.base.specs.Cases.{byBool, same-test, clash}
-use Rattle.base.specs.Every.{both-left, both-right, both-true}
+use Rattle.base.proofs.Cases.{byBool, same-test, clash}
+use Rattle.base.proofs.Every.{both-left, both-right, both-true}
 use Rattle.number.specs.Stored.{Bytes, valueFrom, valueOf, bytesOf}
 use Rattle.number.proofs.Laws.{bytes-take, bytes-drop, bytes-value, value-small}
 use Rattle.packet.specs.Structure.{key, same}

@@ -1,11 +1,11 @@
 -- Each public function's contract determines its answer.
 -- Assumes nothing.
 use mathlib.Core.Path.{_≡_, refl, ap, sym, _∙_}
-use Rattle.base.specs.Cases.{never}
+use Rattle.base.proofs.Cases.{never}
 use Rattle.base.specs.Determined.{Answered}
 use Rattle.refusal.proofs.Laws.{number-apart, refusal-apart}
-use Rattle.packet.specs.Headers.{stepSaid, faultSaid}
-use Rattle.packet.specs.Concluded.{rightSaid, checkSaid}
+use Rattle.packet.specs.Said.{stepSaid, faultSaid}
+use Rattle.packet.specs.Said.{rightSaid, checkSaid}
 use Rattle.packet.specs.declared.Right.{Right}
 use Rattle.packet.specs.declared.Right.the-variants as right
 use Rattle.packet.specs.declared.Step.{Step}

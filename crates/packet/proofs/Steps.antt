@@ -10,15 +10,16 @@ use lib.ListN.{length, getD, drop, length-drop}
 use lib.Dec.{ltb}
 use lib.Seq.{drop-drop}
 use borrow.Author.Tests.{le-leb, lt-leb}
-use Rattle.base.specs.Parts.{byte-at}
-use Rattle.base.specs.Every.{both-left, both-right}
+use Rattle.base.proofs.Parts.{byte-at}
+use Rattle.base.proofs.Every.{both-left, both-right}
 use Rattle.refusal.specs.Answer.{given, refused}
 use Rattle.number.specs.Stored.{Bytes}
 use Rattle.number.proofs.Laws.{bytes-drop}
 use Rattle.ber.specs.Read.{got, broken, readTag, readLength}
 use Rattle.ber.proofs.Laws.{TagRead, tag-read, LengthRead, length-read}
 use Rattle.packet.specs.Pieces.{readItem, afterLength}
-use Rattle.packet.specs.Headers.{headerAt, headerBy, shortForms}
+use Rattle.packet.specs.Said.{headerAt, headerBy}
+use Rattle.packet.specs.code.Headers.{shortForms}
 
 module _ (p : List ℕ) (at : ℕ) where
   pub no-tag : readTag (drop at p) ≡ broken → headerAt p at ≡ refused 7 at 0

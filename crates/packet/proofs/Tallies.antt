@@ -10,7 +10,7 @@ use mathlib.Core.List.{List, [], _∷_}
 use lib.Dec.{eqb}
 use lib.ListN.{length, take, drop}
 use borrow.Author.Tests.{eq-eqb, ne-eqb}
-use Rattle.base.specs.Cases.{byBool, byLt, byEq}
+use Rattle.base.proofs.Cases.{byBool, byLt, byEq}
 use Rattle.refusal.specs.Answer.{Answer, given, refused, map, then}
 use Rattle.number.specs.Stored.{Bytes}
 use Rattle.knowing.specs.Good.{good}
@@ -22,9 +22,10 @@ use Rattle.packet.specs.Judge.{has, among, Fault, clean, wrong, faultOf,
 use Rattle.packet.specs.Ends.{rightEnds}
 use Rattle.packet.specs.Structure.{lastOf, frame, endsOf, rightSum, lastSum, closed, structure}
 use Rattle.packet.specs.Verdict.{startOf, placed, judged, verdict, received, bodyOf, checked}
-use Rattle.packet.specs.Headers.{headerOf, itemBy, headerBy, headerAt}
-use Rattle.packet.specs.Tally.{Tally, none, met, fresh, faultIn, withHeader, tallyFrom, tallied}
-use Rattle.packet.specs.Concluded.{judgement, endsBy, sumBy, concluded, walkedBy}
+use Rattle.packet.specs.code.Headers.{headerOf, itemBy}
+use Rattle.packet.specs.Said.{headerBy, headerAt}
+use Rattle.packet.specs.code.Tally.{Tally, none, met, fresh, faultIn, withHeader, tallyFrom, tallied}
+use Rattle.packet.specs.code.Concluded.{judgement, endsBy, sumBy, concluded, walkedBy}
 use Rattle.packet.specs.declared.Header.{Header}
 use Rattle.packet.specs.declared.Accepted.{Accepted}
 use Rattle.packet.proofs.Walks.{walk-end, walk-full, walk-refused, walk-item, header-lies, header-back}

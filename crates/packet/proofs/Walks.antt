@@ -9,8 +9,8 @@ use lib.Dec.{leb}
 use lib.ListN.{length, take, drop, length-take, length-drop}
 use lib.Seq.{drop-drop}
 use borrow.Author.Tests.{lt-ltb, leb-true}
-use Rattle.base.specs.Cases.{byBool}
-use Rattle.base.specs.Parts.{nil-at}
+use Rattle.base.proofs.Cases.{byBool}
+use Rattle.base.proofs.Parts.{nil-at}
 use Rattle.refusal.specs.Answer.{Answer, given, refused}
 use Rattle.number.specs.Stored.{Bytes}
 use Rattle.number.proofs.Laws.{bytes-drop}
@@ -18,8 +18,9 @@ use Rattle.ber.specs.Read.{Read, got, broken, readTag, readLength}
 use Rattle.ber.proofs.Laws.{tag-read}
 use Rattle.tagset.specs.declared.TagSet.{TagSet}
 use Rattle.packet.specs.Pieces.{Item, Step, noTag, noLength, one, afterLength, afterTag, readItem, before, onward, walk}
-use Rattle.packet.specs.Headers.{headerOf, itemBy, headerBy, headerAt}
-use Rattle.packet.specs.Tally.{Tally, faultIn, withHeader, tallyFrom, tallied}
+use Rattle.packet.specs.code.Headers.{headerOf, itemBy}
+use Rattle.packet.specs.Said.{headerBy, headerAt}
+use Rattle.packet.specs.code.Tally.{Tally, faultIn, withHeader, tallyFrom, tallied}
 use Rattle.packet.specs.declared.Header.{Header}
 
 module _ (p : List ℕ) (here : ℕ) where

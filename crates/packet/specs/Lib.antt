@@ -4,8 +4,7 @@ pub mod Structure
 pub mod Judge
 pub mod Verdict
 pub mod Rows
-pub mod Headers
-pub mod Tally
-pub mod Concluded
 pub mod Encode
 pub mod Allowed
+pub mod Said
+pub mod code

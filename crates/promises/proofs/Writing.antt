@@ -8,7 +8,7 @@ use lib.ListN.{length, take, drop}
 use lib.Seq.{take-append-seam}
 use lib.Dec.{ltb}
 use borrow.Author.Tests.{le-ltb}
-use Rattle.base.specs.Every.{both-left}
+use Rattle.base.proofs.Every.{both-left}
 use Rattle.refusal.specs.Answer.{given}
 use Rattle.refusal.proofs.Answers.{given-same, missed, then-given, map-given}
 use Rattle.tagset.specs.Sets.{holds}

@@ -20,7 +20,8 @@ use Rattle.packet.specs.Verdict.{bodyOf, received, checked}
 use Rattle.packet.specs.Rows.{rowsOf, words, lentVerdict, filledBy, readAnswer, tableBy, readTable}
 use Rattle.packet.specs.declared.Accepted.{Accepted}
 use Rattle.packet.proofs.Accepting.{Accepting, accepting, walk-few}
-use Rattle.reader.specs.Reads.{Reads, readSaid, AcceptsFrom, orNone, itemsOf}
+use Rattle.reader.specs.Reads.{Reads, readSaid}
+use Rattle.reader.specs.code.Filling.{AcceptsFrom, orNone, itemsOf}
 use Rattle.reader.specs.declared.Reading.{Reading}
 use Rattle.reader.specs.declared.Reading.the-variants.{Rows, Refused}
 use Rattle.reader.proofs.Laws.{table-is}

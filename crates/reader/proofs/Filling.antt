@@ -8,7 +8,7 @@ use mathlib.Core.List.{List, _∷_}
 use lib.ListN.{length}
 use lib.Seq.{sets}
 use borrow.Author.Tests.{eqb-true}
-use Rattle.base.specs.Cases.{byBool}
+use Rattle.base.proofs.Cases.{byBool}
 use Rattle.refusal.specs.Answer.{given, refused}
 use Rattle.tagset.specs.Sets.{holds}
 use Rattle.tagset.specs.declared.TagSet.{TagSet}
@@ -17,12 +17,13 @@ use Rattle.catalogue.specs.declared.Shape.{Shape}
 use Rattle.catalogue.specs.declared.Shape.the-variants.{Text, Number, Absent}
 use Rattle.catalogue.proofs.Columns.{number-width}
 use Rattle.packet.specs.Pieces.{Item}
-use Rattle.packet.specs.Headers.{itemBy, headerAt}
+use Rattle.packet.specs.code.Headers.{itemBy}
+use Rattle.packet.specs.Said.{headerAt}
 use Rattle.packet.specs.Rows.{shapeFor, rowOf, rowsOf, words}
 use Rattle.packet.specs.declared.Header.{Header}
 use Rattle.packet.proofs.Ahead.{Ahead, no-more, not-refused, next}
 use Rattle.packet.proofs.Accepting.{AllFit, oneFits}
-use Rattle.reader.specs.Reads.{putRow, Narrow}
+use Rattle.reader.specs.code.Filling.{putRow, Narrow}
 use Rattle.reader.proofs.Laws.{row-more}
 
 -- an allowed length of a number is at most eight bytes

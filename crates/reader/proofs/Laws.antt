@@ -18,7 +18,7 @@ use Rattle.rows.specs.Meaning.{kindFor}
 use Rattle.rows.proofs.Laws.{kind-seen, code-seen}
 use Rattle.packet.specs.Rows.{Row, meaningOf, kindOf, codeOf, rowOf, rowsOf, words, tableOf}
 use Rattle.packet.specs.declared.Header.{Header}
-use Rattle.reader.specs.Reads.{putRow}
+use Rattle.reader.specs.code.Filling.{putRow}
 
 -- one store, then the rest of a run of zeros to word e
 pub clear-more : (t : List ℕ) (k e : ℕ) → k < e → sets (set t k 0) (k + 1) (replicate (e - (k + 1)) 0) ≡ sets t k (replicate (e - k) 0)

@@ -10,8 +10,9 @@ use lib.Dec.{ltb, eqb}
 use lib.ListN.{length, getD, set, replicate}
 use lib.Seq.{getD-set-same, getD-set-other, length-sets, lt-length-set}
 use borrow.Author.Tests.{eqb-true, eq-eqb, ne-eqb, lt-ltb, le-ltb, le-leb}
-use Rattle.base.specs.Cases.{byBool, byEq, byLt, never}
-use Rattle.base.specs.Every.{Each, both-left, both-right, both-true}
+use Rattle.base.proofs.Cases.{byBool, byEq, byLt, never}
+use Rattle.base.specs.Every.{Each}
+use Rattle.base.proofs.Every.{both-left, both-right, both-true}
 use Rattle.refusal.specs.Answer.{given, refused}
 use Rattle.tagset.specs.Sets.{holds}
 use Rattle.tagset.specs.declared.TagSet.{TagSet}
@@ -20,12 +21,11 @@ use Rattle.catalogue.specs.Shapes.{shapeOf}
 use Rattle.catalogue.specs.declared.Shape.{Shape}
 use Rattle.catalogue.specs.declared.Shape.the-variants.{Text, Number, Absent}
 use Rattle.rows.specs.Kinds.{Row, shapeFor, kindIn, markCode}
-use Rattle.rows.specs.Taken.{spotPlace, spotLength, tagGood, codeGood, contentGood, rowGood, countGood, tagShown, rowAt, partOf, rowTakenAt}
+use Rattle.rows.specs.Taken.{spotPlace, spotLength, tagGood, codeGood, contentGood, rowGood, countGood, tagShown, rowAt, partOf, rowTakenAt, GoodRow}
 use Rattle.rows.specs.declared.Row.{Row as Record}
 use Rattle.rows.specs.declared.Content.the-variants as content
 use Rattle.packet.specs.Judge.{Knowing}
 use Rattle.packet.specs.Rows.{rowsIn, pieceOf, piecesOf}
-use Rattle.laws.proofs.Rows.{GoodRow}
 use Rattle.outgoing.specs.Outgoing.{sendable, outgoingRows, outgoing}
 use Rattle.outgoing.proofs.Stages.{good-otherwise}
 use Rattle.rows.proofs.Laws.{count-good}

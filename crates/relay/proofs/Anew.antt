@@ -20,7 +20,7 @@ use Rattle.packet.specs.Allowed.{Formed}
 use Rattle.laws.proofs.Structure.{length-key, structure-formed, formed-length}
 use Rattle.writer.proofs.Whole.{head-put, head-room, items-room, sum-room, packet-put}
 use Rattle.packet.specs.Structure.{ItemsFrom}
-use Rattle.relay.specs.Sends.{itemsFor, Sendable}
+use Rattle.relay.specs.code.Sends.{itemsFor, Sendable}
 use Rattle.relay.proofs.Items.{canonical-size}
 
 module _ {p : List ℕ} {from : ℕ} (f : ItemsFrom p from) (by : Bytes p) where

@@ -6,7 +6,7 @@ use native.Mathlib.Nat.{zero-add}
 use mathlib.Core.Path.{_≡_, ap, sym, _∙_}
 use mathlib.Core.List.{List, [], _∷_}
 use lib.ListN.{length, take, drop, length-append, length-take, length-drop}
-use Rattle.base.specs.Parts.{part-lent}
+use Rattle.base.proofs.Parts.{part-lent}
 use Rattle.base.specs.Putting.{putInto, Room, Wrote}
 use Rattle.base.proofs.Putting.{to-write, wrote-as, wrote-nothing}
 use Rattle.refusal.specs.Answer.{given}
@@ -14,7 +14,8 @@ use Rattle.number.specs.Stored.{Bytes}
 use Rattle.ber.specs.Written.{tagBytes, lengthBytes}
 use Rattle.packet.specs.Pieces.{pieces}
 use Rattle.packet.specs.Structure.{structure, ItemsFrom}
-use Rattle.packet.specs.Headers.{itemBy, headerAt, stepSaid}
+use Rattle.packet.specs.code.Headers.{itemBy}
+use Rattle.packet.specs.Said.{headerAt, stepSaid}
 use Rattle.packet.specs.Encode.{piecesIn, itemBytes, itemsBytes, canonical}
 use Rattle.packet.specs.declared.Header.{Header}
 use Rattle.packet.specs.declared.Step.{Step}
@@ -24,7 +25,7 @@ use Rattle.laws.proofs.Structure.{structure-formed}
 use Rattle.laws.proofs.Written.{length-item, length-encode}
 use Rattle.laws.proofs.Forward.{canonical-shorter}
 use Rattle.writer.proofs.Pieces.{piece-room, piece-put}
-use Rattle.relay.specs.Sends.{itemsFor}
+use Rattle.relay.specs.code.Sends.{itemsFor}
 use Rattle.packet.proofs.Ahead.{Ahead, no-more, Next, next}
 
 -- the item that a header stands for, within the packet

@@ -7,8 +7,8 @@ use mathlib.Core.List.{List}
 use lib.ListN.{length, drop, length-append}
 use lib.Dec.{ltb, leb}
 use borrow.Author.Tests.{le-leb}
-use Rattle.base.specs.Cases.{byBool}
-use Rattle.base.specs.Every.{both-true}
+use Rattle.base.proofs.Cases.{byBool}
+use Rattle.base.proofs.Every.{both-true}
 use Rattle.refusal.specs.Answer.{given, refused, map}
 use Rattle.refusal.proofs.Answers.{passed, map-given, map-refused}
 use Rattle.number.specs.Stored.{Bytes}
@@ -36,7 +36,7 @@ use Rattle.outgoing.proofs.Given.{Sent, Outgoes, outgoes-given}
 use Rattle.writer.specs.Writes.{written, writeAnswer, writeOutput}
 use Rattle.relay.specs.Forwards.{Forwards, ownTable, forwardAnswer, forwardOutput, forwardSaid}
 use Rattle.packet.specs.Structure.{ItemsFrom}
-use Rattle.relay.specs.Sends.{sentAnswer, sentOutput, Sends}
+use Rattle.relay.specs.code.Sends.{sentAnswer, sentOutput, Sends}
 use Rattle.relay.specs.declared.Forwarding.{Forwarding}
 
 table-long : (K : Knowing) (is : List Item) (t : List ℕ) → 4 * length is ≤ length (tableOf K is t)

@@ -11,7 +11,7 @@ use Rattle.base.proofs.Putting.{put-front}
 use Rattle.refusal.specs.Answer.{given, refused}
 use Rattle.refusal.proofs.Laws.{made, refuse-made, told-apart}
 use Rattle.relay.specs.Forwards.{forwardSaid}
-use Rattle.relay.specs.Sends.{Sends}
+use Rattle.relay.specs.code.Sends.{Sends}
 use Rattle.relay.specs.declared.Forwarding.{Forwarding}
 use Rattle.relay.specs.declared.Forwarding.the-variants.{Packet, Refused}
 

@@ -1,2 +1,2 @@
 pub mod Forwards
-pub mod Sends
+pub mod code

@@ -7,10 +7,10 @@ use mathlib.Core.Bool.{Bool, true, cond, _&&_}
 use mathlib.Core.List.{List}
 use lib.Dec.{leb, eqb}
 use borrow.Author.Tests.{leb-true, eq-eqb, ne-eqb}
-use Rattle.base.specs.Cases.{byBool, byEq, clash}
-use Rattle.base.specs.Every.{both-left, both-right}
+use Rattle.base.proofs.Cases.{byBool, byEq, clash}
+use Rattle.base.proofs.Every.{both-left, both-right}
 use Rattle.refusal.proofs.Laws.{refusal-apart}
-use Rattle.catalogue.specs.Column.{shapeColumn, shapeIn}
+use Rattle.catalogue.specs.code.Column.{shapeColumn, shapeIn}
 use Rattle.catalogue.specs.declared.Shape.{Shape}
 use Rattle.catalogue.specs.declared.Shape.the-variants.{Text, Number, Absent}
 use Rattle.catalogue.proofs.Columns.{shape-in-column}

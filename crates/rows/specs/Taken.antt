@@ -1,6 +1,7 @@
 -- Document 01, Rows and Writer: which rows are bad, and a row taken out singly.
 use Prim.Native.Nat.{ℕ, _+_, _*_, _/_, _%_, _^_}
-use mathlib.Core.Bool.{Bool, cond, _&&_, _||_}
+use mathlib.Core.Path.{_≡_}
+use mathlib.Core.Bool.{Bool, true, cond, _&&_, _||_}
 use mathlib.Core.List.{List}
 use lib.ListN.{length, getD}
 use lib.Dec.{ltb, leb, eqb}
@@ -53,6 +54,10 @@ contentGood Absent room r = partGood room (r .code) (r .spot)
 -- a row that is not bad, for a receiver and a buffer of so many bytes: its kind is the one that this receiver gives the tag and the code
 unfoldable pub rowGood : Shape → ℕ → Row → Bool
 rowGood shape room r = tagGood (r .tag) && (eqb (r .kind) (kindFor shape (r .code)) && contentGood shape room r)
+
+-- the same of a receiver and a buffer
+abbrev pub GoodRow : (ℕ → Bool) → List ℕ → Row → Type 0
+GoodRow K b r = rowGood (shapeFor K (r .tag)) (length b) r ≡ true
 
 -- the tag that goes with 17: "its tag if 1 to 2,097,151, else 0"
 abbrev pub tagShown : ℕ → ℕ

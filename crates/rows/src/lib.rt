@@ -8,7 +8,7 @@ ghost use Rattle.refusal.specs.Answer.{refused as refusedBy};
 ghost use lib.Dec.{eqb};
 ghost use mathlib.Core.Bool.{cond};
 ghost use Rattle.tagset.specs.Sets.{holds};
-ghost use Rattle.catalogue.specs.Column.{shapeIn};
+ghost use Rattle.catalogue.specs.code.Column.{shapeIn};
 ghost use Rattle.catalogue.specs.declared.Shape.{Shape};
 ghost use Rattle.rows.specs.Meaning.{kindFor, markCode};
 ghost use Rattle.rows.specs.Taken.{rowGood, contentGood, partGood, codeGood, countGood, tagShown, rowAt, partOf, rowSays, contentOf, rowTaken, rowTakenAt, takenSaid};

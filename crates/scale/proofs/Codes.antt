@@ -7,8 +7,8 @@ use mathlib.Core.Path.{_≡_, sym, ap, ap₂, _∙_}
 use mathlib.Core.Bool.{Bool, true, false, not}
 use lib.IntN.{ℤ, natAbs, _-ℤ_}
 use borrow.Author.Tests.{lt-ltb}
-use Rattle.base.specs.Cases.{byBool, byLt, clash}
-use Rattle.base.specs.Every.{both-left}
+use Rattle.base.proofs.Cases.{byBool, byLt, clash}
+use Rattle.base.proofs.Every.{both-left}
 use Rattle.refusal.specs.Answer.{given}
 use Rattle.catalogue.specs.Items.{itemOf}
 use Rattle.catalogue.specs.declared.Item.{Item}
@@ -17,7 +17,7 @@ use Rattle.scale.specs.Nearest.{nearest}
 use Rattle.scale.specs.Scales.{codes, origin, reach, steps, isNumber, isOutside, codeBelow, codeFar, valueBelow, valueFar, side}
 use Rattle.scale.specs.Conversions.{codeOf, toCode}
 use Rattle.scale.specs.Exact.{miss}
-use Rattle.scale.specs.Rule.{Rule}
+use Rattle.scale.specs.code.Rule.{Rule}
 use Rattle.scale.specs.declared.Code.{Code}
 use Rattle.scale.proofs.Whole.{sided}
 use Rattle.scale.proofs.Sides.{side-drop, side-nearest, side-tie, other-side-tie}

@@ -7,8 +7,8 @@ use mathlib.Core.Bool.{Bool, true, false, not}
 use lib.Dec.{ltb}
 use lib.IntN.{ℤ}
 use lib.Signed.{mag, ltZ}
-use Rattle.base.specs.Cases.{byBool, never}
-use Rattle.base.specs.Every.{both-true}
+use Rattle.base.proofs.Cases.{byBool, never}
+use Rattle.base.proofs.Every.{both-true}
 use borrow.Author.Tests.{lt-ltb, not-true}
 use Rattle.refusal.specs.Answer.{Answer, given, refused}
 use Rattle.catalogue.specs.Items.{itemOf}
@@ -19,7 +19,7 @@ use Rattle.scale.specs.Scales.{scaled, codes, isNumber, isOutside}
 use Rattle.scale.specs.Conversions.{ifScaled, scaledItem, converted, houseOf, houseGiven, toHouse, codeOf, codeGiven, toCode}
 use Rattle.scale.specs.declared.House.{House}
 use Rattle.scale.specs.declared.Code.{Code}
-use Rattle.scale.specs.Rule.{Rule}
+use Rattle.scale.specs.code.Rule.{Rule}
 use Rattle.scale.proofs.Rule.{rule}
 use Rattle.scale.proofs.Whole.{inside-small}
 use Rattle.scale.proofs.Items.{neither-left, neither-right}

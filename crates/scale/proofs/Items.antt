@@ -11,13 +11,13 @@ use borrow.Author.Tests.{ltb-true, lt-ltb}
 use lib.Signed.{mag, ltZ}
 use mir.Syntax.{w64}
 use mir.Val.{SFits}
-use Rattle.base.specs.Cases.{byBool, clash}
-use Rattle.base.specs.Every.{both-left}
+use Rattle.base.proofs.Cases.{byBool, clash}
+use Rattle.base.proofs.Every.{both-left}
 use Rattle.catalogue.specs.Shapes.{isMarked}
 use Rattle.catalogue.specs.declared.Item.{Item}
 use Rattle.scale.specs.Nearest.{nearest}
 use Rattle.scale.specs.Scales.{signed, codes, half, origin, reach, steps, isNumber, isOutside, codeBelow, codeFar, valueFar}
-use Rattle.scale.specs.Rule.{shared, depth, under, Rule, Scales, Counted}
+use Rattle.scale.specs.code.Rule.{shared, depth, under, Rule, Scales, Counted}
 use Rattle.scale.specs.declared.Scale.{Scale}
 use Rattle.scale.proofs.Nearest.{nearest-cancel, nearest-grows}
 use Rattle.scale.proofs.Whole.{far-sum, natAbs-turn, ltZ-turn}

@@ -5,7 +5,7 @@ use native.Mathlib.Omega.{arith}
 use native.Mathlib.Nat.{mul-comm, mul-assoc, mul-left-comm, mul-add, add-mul, mul-suc, mul-zero, mul-le-mul-left, mul-le-mul-right}
 use native.Mathlib.Nat.{mod-lt, div-add-mod, div-eq-of-lt-le, mul-div-mul-left}
 use mathlib.Core.Path.{_≡_, sym, ap, _∙_}
-use Rattle.base.specs.Cases.{byLt}
+use Rattle.base.proofs.Cases.{byLt}
 use Rattle.scale.specs.Nearest.{nearest}
 
 -- k - 1/2 ≤ p / q < k + 1/2

@@ -9,8 +9,8 @@ use lib.Dec.{ltb, eqb}
 use lib.IntN.{ℤ, pos, negℤ, _+ℤ_, _-ℤ_, +ℤ-comm, negℤ-negℤ}
 use lib.Signed.{ltZ}
 use borrow.Author.Tests.{leb-true, leb-false, eqb-false, not-true, lt-ltb, le-ltb, le-leb, lt-leb, ne-eqb}
-use Rattle.base.specs.Cases.{byBool, clash}
-use Rattle.base.specs.Every.{both-left, both-right}
+use Rattle.base.proofs.Cases.{byBool, clash}
+use Rattle.base.proofs.Every.{both-left, both-right}
 use Rattle.catalogue.specs.Rows.{isSigned}
 use Rattle.catalogue.specs.Shapes.{isMarked}
 use Rattle.catalogue.specs.declared.Sign.{Sign}
@@ -18,7 +18,7 @@ use Rattle.catalogue.specs.declared.Sign.the-variants.{Unsigned, Signed, Marked
 use Rattle.catalogue.specs.declared.Item.{Item}
 use Rattle.scale.specs.Scales.{signed, codes, half, origin, reach, steps, isMark, isNumber, isOutside, codeBelow, codeFar, valueBelow, valueFar, side}
 use Rattle.scale.specs.Conversions.{unitsAway, houseOf, codesAway, codeAt, codeOf}
-use Rattle.scale.specs.Rule.{depth, under, Rule}
+use Rattle.scale.specs.code.Rule.{depth, under, Rule}
 use Rattle.scale.proofs.Nearest.{nearest-grows, nearest-top}
 use Rattle.scale.proofs.Whole.{up, turn, through, natAbs-turn, to-origin}
 use Rattle.scale.proofs.Sides.{pos-minus, not-less}

@@ -1,7 +1,7 @@
 -- What an answer says tells any two answers apart, so each public function's contract determines its answer.
 -- Assumes nothing.
 use mathlib.Core.Path.{_≡_, sym, ap, _∙_}
-use Rattle.base.specs.Cases.{never}
+use Rattle.base.proofs.Cases.{never}
 use Rattle.base.specs.Determined.{Answered}
 use Rattle.refusal.proofs.Laws.{refusal-apart}
 use Rattle.scale.specs.Said.{houseSaid, codeSaid}

@@ -9,8 +9,9 @@ use lib.ListN.{getD}
 use lib.Dec.{ltb, leb, eqb}
 use lib.Signed.{mag, ltZ}
 use borrow.Author.Tests.{ltb-true, leb-true, eqb-true, not-true}
-use Rattle.base.specs.Cases.{byLt, never, unless}
-use Rattle.base.specs.Every.{all, all-at, allBelow, all-below}
+use Rattle.base.proofs.Cases.{byLt, never, unless}
+use Rattle.base.specs.Every.{all, allBelow}
+use Rattle.base.proofs.Every.{all-at, all-below}
 use Rattle.catalogue.specs.Items.{groups, member, itemIn, itemOf}
 use Rattle.catalogue.specs.declared.Item.{Item}
 use Rattle.catalogue.specs.declared.Found.{Found}
@@ -18,7 +19,7 @@ use Rattle.catalogue.specs.declared.Found.the-variants.{Known, Absent}
 use Rattle.catalogue.proofs.Laws.{item-beyond}
 use Rattle.scale.specs.Nearest.{nearest}
 use Rattle.scale.specs.Scales.{scaled, codes, half, origin, reach, steps}
-use Rattle.scale.specs.Rule.{shared, depth, lowest, under, Rule}
+use Rattle.scale.specs.code.Rule.{shared, depth, lowest, under, Rule}
 
 -- a test that the scaled items pass, of all tags, holds of each
 abbrev pub ofScaled : (Item → Bool) → Found → Bool

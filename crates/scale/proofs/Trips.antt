@@ -10,7 +10,7 @@ use mathlib.Core.List.{List, [], _∷_}
 use lib.Dec.{ltb, eqb}
 use lib.IntN.{ℤ, natAbs, _+ℤ_, _-ℤ_}
 use borrow.Author.Tests.{lt-ltb, eq-eqb, not-true}
-use Rattle.base.specs.Cases.{byBool, byLt, clash}
+use Rattle.base.proofs.Cases.{byBool, byLt, clash}
 use Rattle.base.specs.Every.{allBelow}
 use Rattle.refusal.specs.Answer.{given}
 use Rattle.catalogue.specs.Items.{groups, member, itemIn, itemOf}
@@ -20,7 +20,7 @@ use Rattle.catalogue.specs.declared.Found.the-variants.{Known, Absent}
 use Rattle.scale.specs.Nearest.{nearest}
 use Rattle.scale.specs.Scales.{scaled, codes, half, origin, reach, steps, isNumber, isOutside, codeBelow, codeFar, valueBelow, valueFar, side}
 use Rattle.scale.specs.Conversions.{houseOf, toHouse, codesAway, codeAt, codeOf, toCode}
-use Rattle.scale.specs.Rule.{Rule}
+use Rattle.scale.specs.code.Rule.{Rule}
 use Rattle.scale.specs.declared.House.{House}
 use Rattle.scale.specs.declared.Code.{Code}
 use Rattle.scale.proofs.Rule.{ofScaled, of-scaled}

@@ -13,7 +13,7 @@ use Rattle.catalogue.specs.declared.Found.the-variants.{Known}
 use Rattle.scale.specs.Scales.{origin, reach, steps, codeBelow, codeFar, side}
 use Rattle.scale.specs.Conversions.{unitsAway, houseOf, toHouse}
 use Rattle.scale.specs.Exact.{miss}
-use Rattle.scale.specs.Rule.{Rule}
+use Rattle.scale.specs.code.Rule.{Rule}
 use Rattle.scale.specs.declared.House.{House}
 use Rattle.scale.proofs.Whole.{sided, from-origin, to-origin}
 use Rattle.scale.proofs.Sides.{side-times, near-side, within-half}

@@ -10,7 +10,7 @@ use lib.Signed.{mag, ltZ}
 use mir.Syntax.{w64}
 use mir.Val.{SFits}
 use borrow.Author.Tests.{lt-ltb, le-ltb, ltb-false, ltb-true}
-use Rattle.base.specs.Cases.{byLt, byBool, clash}
+use Rattle.base.proofs.Cases.{byLt, byBool, clash}
 use Rattle.scale.specs.Scales.{side}
 use Rattle.scale.proofs.Nearest.{gap}
 

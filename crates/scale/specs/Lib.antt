@@ -1,6 +1,6 @@
 pub mod Nearest
 pub mod Scales
 pub mod Conversions
-pub mod Rule
 pub mod Exact
 pub mod Said
+pub mod code

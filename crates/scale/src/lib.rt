@@ -10,7 +10,7 @@ ghost use Rattle.catalogue.specs.Shapes.{isMarked};
 ghost use Rattle.scale.specs.Nearest.{nearest};
 ghost use Rattle.scale.specs.Scales.{isNumber, isOutside, side};
 ghost use Rattle.scale.specs.Conversions.{scaledItem, houseOf, toHouse, codeOf, toCode};
-ghost use Rattle.scale.specs.Rule.{Rule, Scales, Counted};
+ghost use Rattle.scale.specs.code.Rule.{Rule, Scales, Counted};
 ghost use Rattle.scale.specs.Said.{houseSaid, codeSaid};
 use catalogue::Found;
 use catalogue::Item;

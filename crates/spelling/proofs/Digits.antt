@@ -6,7 +6,7 @@ use native.Mathlib.Nat.{pow-suc}
 use mathlib.Core.Path.{_≡_, refl}
 use lib.ListN.{length}
 use borrow.Author.Tests.{lt-ltb, le-ltb}
-use Rattle.base.specs.Cases.{byLt}
+use Rattle.base.proofs.Cases.{byLt}
 use Rattle.base.proofs.Digits.{length-digits as digits-long}
 use Rattle.spelling.specs.Spelling.{digits, countFrom, decimal}
 

@@ -8,7 +8,7 @@ use mathlib.Core.List.{List, [], _∷_}
 use lib.Arith.{mod-mul}
 use lib.IntN.{ℤ, pos, negsuc, natAbs}
 use lib.ListN.{length, getD}
-use Rattle.base.specs.Cases.{byLt}
+use Rattle.base.proofs.Cases.{byLt}
 use Rattle.spelling.specs.Spelling.{digits, countFrom, decimal, whole, hex}
 use Rattle.spelling.proofs.Digits.{count-one, count-more, decimal-length}
 

@@ -10,7 +10,7 @@ use lib.Signed.{ltZ}
 use mir.Syntax.{w64}
 use mir.Val.{SFits}
 use borrow.Author.Tests.{ltb-true}
-use Rattle.base.specs.Cases.{clash}
+use Rattle.base.proofs.Cases.{clash}
 use Rattle.spelling.specs.Spelling.{decimal, whole}
 
 pub record Below (z : ℤ) : Type 0 where

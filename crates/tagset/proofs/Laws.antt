@@ -10,8 +10,8 @@ use lib.Bits.{bitAnd, bitOr, or-lt}
 use lib.Pow.{pow-lt}
 use lib.Count.{ones}
 use borrow.Author.Tests.{eq-eqb, eqb-true, lt-ltb, le-ltb}
-use Rattle.base.specs.Cases.{byLt, clash, unless, unless-true}
-use Rattle.base.specs.Every.{all-below, below-all}
+use Rattle.base.proofs.Cases.{byLt, clash, unless, unless-true}
+use Rattle.base.proofs.Every.{all-below, below-all}
 use Rattle.tagset.specs.Sets.{holds, within, countBelow, withTag}
 use Rattle.tagset.specs.declared.TagSet.{TagSet}
 use Rattle.tagset.proofs.Words.{set-bit, other-bit, one-more, no-ones, all-ones, bit, low-bit, high-bit, no-bit, masked-bits, bits-masked}

@@ -9,7 +9,7 @@ use lib.Dec.{eqb}
 use lib.Count.{ones, ones-cat}
 use lib.Pow.{pow-add, pow-lt, pow-pos, shl-exact, mod-pow-add, pow-mono, shr-shr, field, mod-mod-pow, high, low}
 use lib.Bits.{bitOr, or-shr, or-mod, or-zero-r, bitAnd, and-mask, and-step, and-shr, and-mod, and-zero-l}
-use Rattle.base.specs.Cases.{byEq, byLt}
+use Rattle.base.proofs.Cases.{byEq, byLt}
 
 pub and-one : (x : ℕ) → bitAnd x 1 ≡ x % 2
 and-one x = and-mask x 1

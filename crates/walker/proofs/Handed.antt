@@ -11,9 +11,9 @@ use mathlib.Core.List.{List, [], _∷_}
 use lib.Arith.{digits-div, digits-mod}
 use lib.ListN.{length, drop, length-drop}
 use lib.Seq.{length-take-le}
-use Rattle.base.specs.Cases.{byBool, byLt, never}
+use Rattle.base.proofs.Cases.{byBool, byLt, never}
 use Rattle.base.specs.Every.{Each}
-use Rattle.base.specs.Parts.{nil-at}
+use Rattle.base.proofs.Parts.{nil-at}
 use Rattle.refusal.specs.Answer.{Answer, given, refused}
 use Rattle.number.specs.Stored.{Bytes, valueOf}
 use Rattle.number.proofs.Laws.{value-small}
@@ -29,7 +29,8 @@ use Rattle.rows.specs.Taken.{partOf, rowSays, contentOf}
 use Rattle.rows.specs.declared.Content.the-variants as content
 use Rattle.rows.specs.declared.Row.{Row as SingleRow}
 use Rattle.packet.specs.Pieces.{Item, pieces, walk, before, readItem}
-use Rattle.packet.specs.Headers.{headerAt, itemBy}
+use Rattle.packet.specs.Said.{headerAt}
+use Rattle.packet.specs.code.Headers.{itemBy}
 use Rattle.packet.specs.Verdict.{verdict, received, checked, startOf}
 use Rattle.packet.specs.Rows.{rowBy, rowOf, rowsOf, rowsIn, bytesAt, Filled, readAnswer, readTable}
 use Rattle.packet.specs.declared.Header.{Header}

@@ -7,9 +7,9 @@ use lib.ListN.{length}
 use Rattle.refusal.specs.Answer.{given}
 use Rattle.number.specs.Stored.{Bytes}
 use Rattle.tagset.specs.declared.TagSet.{TagSet}
-use Rattle.packet.specs.Headers.{headerAt, stepSaid}
+use Rattle.packet.specs.Said.{headerAt, stepSaid}
 use Rattle.packet.specs.Verdict.{checked}
-use Rattle.packet.specs.Concluded.{checkSaid}
+use Rattle.packet.specs.Said.{checkSaid}
 use Rattle.packet.specs.declared.Header.{Header}
 use Rattle.packet.specs.declared.Step.{Step}
 use Rattle.packet.specs.declared.Checked.{Checked}

@@ -1,10 +1,10 @@
 -- What a walker owns is made of what its packet owns.
 -- Assumes `Given`.
-use Rattle.base.specs.Kit.{ℕ, _<_, _^_, refl, List, [], _∷_, URA, named, w64, ent, via, id⊢, Lft, Heap, Atoms, sem, Given, u8, u64, usize, uint-makes, RefT}
-use Rattle.base.specs.Kit.{NamedLft, ShrSlice, slice-vals, all-own, own-shut}
+use Rattle.base.proofs.Kit.{ℕ, _<_, _^_, refl, List, [], _∷_, URA, named, w64, ent, via, id⊢, Lft, Heap, Atoms, sem, Given, u8, u64, usize, uint-makes, RefT}
+use Rattle.base.proofs.Kit.{NamedLft, ShrSlice, slice-vals, all-own, own-shut}
 use denote.Struct.Laws as LL
 use Rattle.walker.specs.Passes.{walkerAt}
-use Rattle.base.specs.Walk.{beside}
+use Rattle.base.proofs.Walk.{beside}
 use Rattle.walker.proofs.Walker as T
 use Rattle.walker.proofs.Walker.Laws as T′
 

@@ -14,7 +14,7 @@ use prog.Wp.{Heap}
 use ghost.Atoms.{Atoms}
 use contract.Monad.{Fun}
 use denote.Ref.{RefT, now}
-use Rattle.base.specs.Cases.{never}
+use Rattle.base.proofs.Cases.{never}
 use Rattle.base.specs.Determined.{Answered, Read, Says}
 use Rattle.refusal.specs.Answer.{Answer, given, refused}
 use Rattle.refusal.specs.declared.Refusal.{Refusal}

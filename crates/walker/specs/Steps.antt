@@ -13,7 +13,7 @@ use Rattle.rows.specs.Taken.{contentOf}
 use Rattle.rows.specs.declared.Part.{Part}
 use Rattle.rows.specs.declared.Content.{Content}
 use Rattle.rows.specs.declared.Row.{Row}
-use Rattle.packet.specs.Headers.{headerAt}
+use Rattle.packet.specs.Said.{headerAt}
 use Rattle.packet.specs.Verdict.{checked}
 use Rattle.packet.specs.declared.Header.{Header}
 use Rattle.packet.specs.declared.Accepted.{Accepted}

@@ -16,12 +16,12 @@ use Rattle.tagset.specs.declared.TagSet.{TagSet}
 use Rattle.rows.proofs.Laws.{count-good}
 use Rattle.packet.specs.Encode.{encode}
 use Rattle.outgoing.specs.Outgoing.{outgoing, packedOf}
-use Rattle.outgoing.specs.Staged.{outgoingSaid}
+use Rattle.outgoing.specs.Said.{outgoingSaid}
 use Rattle.outgoing.specs.declared.Packed.{Packed}
 use Rattle.outgoing.specs.declared.Outgoing.{Outgoing}
 use Rattle.outgoing.specs.declared.Outgoing.the-variants as out
 use Rattle.outgoing.proofs.Given.{Outgoes, outgoing-then}
-use Rattle.writer.specs.Putting.{tablePieces, Ready}
+use Rattle.writer.specs.code.Putting.{tablePieces, Ready}
 use Rattle.writer.specs.Writes.{Writes, written, writtenBy, outputBy, writeAnswer, writeOutput, writeSaid}
 use Rattle.writer.specs.declared.Writing.{Writing}
 use Rattle.writer.specs.declared.Writing.the-variants.{Packet, Refused}

@@ -11,13 +11,12 @@ use Rattle.base.specs.Putting.{putInto, Room, Wrote}
 use Rattle.base.proofs.Putting.{to-write, wrote-nothing}
 use Rattle.rows.specs.Meaning.{Row, shapeFor}
 use Rattle.catalogue.specs.declared.Shape.{Shape}
-use Rattle.rows.specs.Taken.{rowAt, rowGood}
+use Rattle.rows.specs.Taken.{rowAt, rowGood, GoodRow}
 use Rattle.packet.specs.Judge.{Knowing}
 use Rattle.packet.specs.Encode.{itemsBytes}
 use Rattle.packet.specs.Rows.{rowsIn, pieceOf, piecesOf}
 use Rattle.laws.proofs.Tables.{rows-from, rows-none}
-use Rattle.laws.proofs.Rows.{GoodRow}
-use Rattle.writer.specs.Putting.{rowBytes, tableBytes}
+use Rattle.writer.specs.code.Putting.{rowBytes, tableBytes}
 use Rattle.writer.proofs.Pieces.{piece-room, piece-put}
 
 -- rows are left: put at a place, they make the output x and end at a place

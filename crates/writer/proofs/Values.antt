@@ -9,7 +9,7 @@ use lib.ListN.{length, take, drop, length-drop}
 use lib.Seq.{length-take-le}
 use lib.Dec.{eqb}
 use borrow.Author.Tests.{eqb-true, leb-true}
-use Rattle.base.specs.Every.{both-left, both-right}
+use Rattle.base.proofs.Every.{both-left, both-right}
 use Rattle.number.specs.Stored.{bytesOf}
 use Rattle.number.proofs.Laws.{length-bytesOf}
 use Rattle.catalogue.specs.declared.Shape.{Shape}

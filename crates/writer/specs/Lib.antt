@@ -1,2 +1,2 @@
-pub mod Putting
 pub mod Writes
+pub mod code

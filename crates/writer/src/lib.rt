@@ -14,7 +14,7 @@ ghost use Rattle.packet.specs.Structure.{key};
 ghost use Rattle.packet.specs.Encode.{encode};
 ghost use Rattle.packet.specs.Rows.{valueIn};
 ghost use Rattle.writer.specs.Writes.{Writes};
-ghost use Rattle.writer.specs.Putting.{rowBytes, tableBytes, tablePieces, Rows, Ready};
+ghost use Rattle.writer.specs.code.Putting.{rowBytes, tableBytes, tablePieces, Rows, Ready};
 use catalogue::Shape;
 use outgoing::Outgoing;
 use refusal::Reason;

@@ -4,8 +4,8 @@ use borrow.Author.Needs.{needs}
 use native.Mathlib.Omega.{arith}
 use Prim.Native.Nat.{ℕ, _+_, _-_}
 use lib.ListN.{drop, length-drop}
-use Rattle.base.specs.Cases.{cases}
-use Rattle.base.specs.Parts.{byte-at, nil-at}
+use Rattle.base.proofs.Cases.{cases}
+use Rattle.base.proofs.Parts.{byte-at, nil-at}
 use Rattle.number.proofs.Laws.{bytes-drop, bytes-lent}
 use Rattle.ber.proofs.Sizes.{value-whole}
 use mathlib.Core.Path.{_≡_}

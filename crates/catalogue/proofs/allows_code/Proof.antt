@@ -1,6 +1,6 @@
 -- `catalogue::allows_code` meets its contract.
 -- Assumes nothing.
-use Rattle.base.specs.Cases.{cases}
+use Rattle.base.proofs.Cases.{cases}
 use Rattle.catalogue.specs.Shapes.{codeAllowed}
 use Rattle.catalogue.proofs.allows_code.Statement.{statement}
 use Rattle.catalogue.proofs.allows_code.Tie as tie

@@ -1,7 +1,7 @@
 -- `catalogue::allows_length` meets its contract.
 -- Assumes nothing.
 use borrow.Author.Needs.{needs}
-use Rattle.base.specs.Cases.{cases}
+use Rattle.base.proofs.Cases.{cases}
 use Rattle.catalogue.proofs.allows_length.Statement.{statement}
 use Rattle.catalogue.proofs.allows_length.Tie as tie
 

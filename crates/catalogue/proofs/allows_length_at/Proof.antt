@@ -2,9 +2,9 @@
 -- Assumes nothing.
 use borrow.Author.Tests.{lt-leb}
 use borrow.Author.Needs.{needs}
-use Rattle.base.specs.Cases.{cases}
+use Rattle.base.proofs.Cases.{cases}
 use Rattle.catalogue.proofs.Columns.{byte-allows}
-use Rattle.catalogue.specs.Column.{shapeIn}
+use Rattle.catalogue.specs.code.Column.{shapeIn}
 use Rattle.catalogue.proofs.allows_length_at.Statement.{statement}
 use Rattle.catalogue.proofs.allows_length_at.Tie as tie
 

@@ -1,6 +1,6 @@
 -- `catalogue::limits_codes` meets its contract.
 -- Assumes nothing.
-use Rattle.base.specs.Cases.{cases}
+use Rattle.base.proofs.Cases.{cases}
 use Rattle.catalogue.specs.Shapes.{codesLimited}
 use Rattle.catalogue.proofs.limits_codes.Statement.{statement}
 use Rattle.catalogue.proofs.limits_codes.Tie as tie

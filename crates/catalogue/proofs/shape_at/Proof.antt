@@ -1,8 +1,8 @@
 -- `catalogue::shape_at` meets its contract.
 -- Assumes nothing.
 use borrow.Author.Needs.{needs}
-use Rattle.base.specs.Cases.{cases}
-use Rattle.catalogue.specs.Column.{shapeIn}
+use Rattle.base.proofs.Cases.{cases}
+use Rattle.catalogue.specs.code.Column.{shapeIn}
 use Rattle.catalogue.proofs.shape_at.Statement.{statement}
 use Rattle.catalogue.proofs.shape_at.Tie as tie
 

@@ -3,7 +3,7 @@
 use mathlib.Core.Path.{refl}
 use Rattle.catalogue.specs.Items.{groups, member, itemIn, itemOf}
 use Rattle.catalogue.specs.Shapes.{shapeOf}
-use Rattle.catalogue.specs.Column.{columnFrom, shapeColumn}
+use Rattle.catalogue.specs.code.Column.{columnFrom, shapeColumn}
 use Rattle.catalogue.proofs.shapes.Statement.{statement}
 use Rattle.catalogue.proofs.shapes.Tie as tie
 

@@ -3,7 +3,7 @@
 use borrow.Author.Needs.{needs}
 use mathlib.Core.Path.{sym, ap}
 use native.Mathlib.Omega.{arith}
-use Rattle.base.specs.Parts.{to-the-end}
+use Rattle.base.proofs.Parts.{to-the-end}
 use Rattle.checksum.specs.Sum.{weighed}
 use Rattle.checksum.proofs.Laws.{checksum-none, first-even}
 use Rattle.checksum.proofs.checksum.Statement.{statement}

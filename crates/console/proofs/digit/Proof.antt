@@ -1,7 +1,7 @@
 -- `console::digit` meets its contract.
 -- Assumes nothing.
 use borrow.Author.Needs.{needs}
-use Rattle.base.specs.Cases.{cases}
+use Rattle.base.proofs.Cases.{cases}
 use Rattle.console.specs.Word.{digitOf}
 use Rattle.console.proofs.digit.Statement.{statement}
 use Rattle.console.proofs.digit.Tie as tie

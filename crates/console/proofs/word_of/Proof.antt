@@ -5,7 +5,7 @@ use mathlib.Core.Path.{_≡_, sym, _∙_}
 use native.Mathlib.Omega.{arith}
 use borrow.Author.Needs.{needs}
 use lib.ListN.{length, drop}
-use Rattle.base.specs.Cases.{cases}
+use Rattle.base.proofs.Cases.{cases}
 use Rattle.console.specs.Word.{wordFrom, wordOf}
 use Rattle.console.proofs.Laws.{too-long, word-end, word-broken, word-goes-on, grows, fits}
 use Rattle.console.proofs.word_of.Statement.{statement}

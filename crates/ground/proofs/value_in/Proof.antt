@@ -5,7 +5,7 @@ use mathlib.Core.Path.{_≡_, sym, _∙_}
 use native.Mathlib.Omega.{arith}
 use borrow.Author.Needs.{needs}
 use lib.Dec.{eqb}
-use Rattle.base.specs.Every.{both-right}
+use Rattle.base.proofs.Every.{both-right}
 use Rattle.packet.specs.Rows.{rowsIn}
 use Rattle.ground.specs.Values.{valueIn}
 use Rattle.ground.proofs.Values.{this-row, next-row, no-row}

@@ -4,7 +4,7 @@ use borrow.Author.Needs.{needs}
 use mathlib.Core.Path.{_≡_, sym, ap, _∙_}
 use mathlib.Core.Bool.{true}
 use native.Mathlib.Omega.{arith}
-use Rattle.base.specs.Cases.{byBool, same-test}
+use Rattle.base.proofs.Cases.{byBool, same-test}
 use Rattle.tagset.specs.Sets.{within}
 use Rattle.tagset.proofs.Laws.{Words}
 use Rattle.catalogue.specs.Rows.{allTags}

@@ -5,7 +5,7 @@ use Prim.Native.Nat.{_+_, _*_, _-_, _%_, _^_, _<_, _≤_}
 use native.Mathlib.Omega.{arith}
 use borrow.Author.Needs.{needs}
 use lib.ListN.{length, drop, getD}
-use Rattle.base.specs.Parts.{cons-at, nil-at}
+use Rattle.base.proofs.Parts.{cons-at, nil-at}
 use Rattle.number.specs.Stored.{valueFrom, valueOf}
 use Rattle.number.proofs.Laws.{value-wraps}
 use Rattle.number.proofs.of_any_length.Statement.{statement}

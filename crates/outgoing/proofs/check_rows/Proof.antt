@@ -6,7 +6,7 @@ use mathlib.Core.Path.{sym, ap, _∙_}
 use lib.ListN.{length}
 use Rattle.tagset.proofs.Laws.{Words}
 use Rattle.rows.proofs.Laws.{count-good}
-use Rattle.packet.specs.Concluded.{rightSaid}
+use Rattle.packet.specs.Said.{rightSaid}
 use Rattle.outgoing.proofs.Stages.{rows-good, rows-bad, too-many, not-good}
 use Rattle.outgoing.proofs.check_rows.Statement.{statement}
 use Rattle.outgoing.proofs.check_rows.Tie as tie

@@ -2,8 +2,8 @@
 -- Assumes nothing.
 use mathlib.Core.Path.{_≡_, sym, ap, _∙_}
 use Rattle.packet.specs.Ends.{rightEnds}
-use Rattle.packet.specs.Concluded.{rightSaid}
-use Rattle.outgoing.specs.Staged.{endsIn}
+use Rattle.packet.specs.Said.{rightSaid}
+use Rattle.outgoing.specs.code.Staged.{endsIn}
 use borrow.Author.Needs.{needs}
 use Rattle.outgoing.proofs.closed.Statement.{statement}
 use Rattle.outgoing.proofs.closed.Tie as tie

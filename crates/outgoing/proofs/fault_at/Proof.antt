@@ -2,9 +2,9 @@
 -- Assumes nothing.
 use borrow.Author.Needs.{needs}
 use mathlib.Core.Path.{sym, ap, _∙_}
-use Rattle.catalogue.specs.Column.{shapeIn}
+use Rattle.catalogue.specs.code.Column.{shapeIn}
 use Rattle.catalogue.proofs.Columns.{shape-in-column}
-use Rattle.outgoing.specs.Staged.{rowFault}
+use Rattle.outgoing.specs.code.Staged.{rowFault}
 use Rattle.outgoing.proofs.fault_at.Statement.{statement}
 use Rattle.outgoing.proofs.fault_at.Tie as tie
 

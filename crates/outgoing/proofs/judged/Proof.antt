@@ -5,9 +5,9 @@ use native.Mathlib.Nat.{sub-zero}
 use native.Mathlib.Omega.{arith}
 use Prim.Native.Nat.{_-_}
 use mathlib.Core.Path.{_≡_, sym, ap, _∙_}
-use Rattle.packet.specs.Headers.{faultSaid}
+use Rattle.packet.specs.Said.{faultSaid}
 use Rattle.packet.specs.Rows.{rowsIn}
-use Rattle.outgoing.specs.Staged.{rowsJudged, noTags}
+use Rattle.outgoing.specs.code.Staged.{rowsJudged, noTags}
 use Rattle.outgoing.proofs.Walked.{judged-more, judged-wrong, judged-end}
 use Rattle.outgoing.proofs.judged.Statement.{statement}
 use Rattle.outgoing.proofs.judged.Tie as tie

@@ -6,7 +6,7 @@ use native.Mathlib.Omega.{arith}
 use Prim.Native.Nat.{_+_, _-_}
 use mathlib.Core.Path.{_≡_}
 use Rattle.packet.specs.Rows.{rowsIn}
-use Rattle.outgoing.specs.Staged.{rowsSize}
+use Rattle.outgoing.specs.code.Staged.{rowsSize}
 use Rattle.outgoing.proofs.Walked.{rows-small, size-more, size-end}
 use Rattle.outgoing.proofs.rows_size.Statement.{statement}
 use Rattle.outgoing.proofs.rows_size.Tie as tie

@@ -4,7 +4,7 @@ use borrow.Author.Needs.{needs}
 use mathlib.Core.Path.{_≡_, sym, ap, _∙_}
 use borrow.Author.Tests.{lt-ltb, le-ltb}
 use Rattle.refusal.specs.Answer.{refused}
-use Rattle.outgoing.specs.Staged.{closedIn, sizedBy}
+use Rattle.outgoing.specs.code.Staged.{closedIn, sizedBy}
 use Rattle.outgoing.proofs.sized.Statement.{statement}
 use Rattle.outgoing.proofs.sized.Tie as tie
 

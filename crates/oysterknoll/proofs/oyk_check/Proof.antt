@@ -2,7 +2,7 @@
 -- Assumes nothing.
 use mathlib.Core.Path.{_∙_}
 use borrow.Author.Needs.{needs}
-use Rattle.packet.specs.Concluded.{checkSaid}
+use Rattle.packet.specs.Said.{checkSaid}
 use Rattle.oysterknoll.specs.Answers.{items}
 use Rattle.oysterknoll.proofs.Said.{said}
 use Rattle.oysterknoll.proofs.oyk_check.Statement.{statement}

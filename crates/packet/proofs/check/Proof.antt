@@ -6,7 +6,7 @@ use native.Mathlib.Omega.{arith}
 use Rattle.number.specs.Stored.{Bytes}
 use Rattle.tagset.proofs.Laws.{Words}
 use Rattle.packet.specs.Verdict.{checked}
-use Rattle.packet.specs.Concluded.{frameSaid}
+use Rattle.packet.specs.code.Concluded.{frameSaid}
 use Rattle.packet.proofs.Tallies.{check-good, check-not-good, checkedBy}
 use Rattle.packet.proofs.check.Statement.{statement}
 use Rattle.packet.proofs.check.Tie as tie

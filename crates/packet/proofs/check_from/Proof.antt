@@ -6,8 +6,8 @@ use native.Mathlib.Omega.{arith}
 use lib.ListN.{drop}
 use Rattle.refusal.specs.Answer.{given}
 use Rattle.packet.specs.Pieces.{walk}
-use Rattle.packet.specs.Tally.{fresh, tallied, tallySaid, walkSaid}
-use Rattle.packet.specs.Concluded.{walkedBy}
+use Rattle.packet.specs.code.Tally.{fresh, tallied, tallySaid, walkSaid}
+use Rattle.packet.specs.code.Concluded.{walkedBy}
 use Rattle.packet.proofs.Tallies.{last-inside}
 use Rattle.packet.proofs.check_from.Statement.{statement}
 use Rattle.packet.proofs.check_from.Tie as tie

@@ -4,8 +4,9 @@ use borrow.Author.Needs.{needs}
 use mathlib.Core.Path.{_≡_, sym, ap, _∙_}
 use lib.ListN.{length}
 use Rattle.packet.specs.Ends.{rightEnds}
-use Rattle.packet.specs.Tally.{tallySaid}
-use Rattle.packet.specs.Concluded.{rightSaid, endsBy, concluded}
+use Rattle.packet.specs.code.Tally.{tallySaid}
+use Rattle.packet.specs.Said.{rightSaid}
+use Rattle.packet.specs.code.Concluded.{endsBy, concluded}
 use Rattle.packet.proofs.Closing.{ends-right}
 use Rattle.packet.proofs.conclude.Statement.{statement}
 use Rattle.packet.proofs.conclude.Tie as tie

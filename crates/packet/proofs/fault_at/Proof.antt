@@ -5,10 +5,10 @@ use mathlib.Core.Path.{_≡_, sym, ap, _∙_}
 use native.Mathlib.Omega.{arith}
 use Rattle.number.specs.Stored.{Bytes}
 use Rattle.tagset.specs.Sets.{holds}
-use Rattle.catalogue.specs.Column.{shapeIn}
+use Rattle.catalogue.specs.code.Column.{shapeIn}
 use Rattle.catalogue.proofs.Columns.{shape-in-column}
 use Rattle.packet.specs.Judge.{faultBy, looked}
-use Rattle.packet.specs.Headers.{itemBy}
+use Rattle.packet.specs.code.Headers.{itemBy}
 use Rattle.packet.proofs.Faults.{fault-unknown, fault-known, fault-free, fault-told}
 use borrow.Author.Needs.{needs}
 use Rattle.packet.proofs.fault_at.Statement.{statement}

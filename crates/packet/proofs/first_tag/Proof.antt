@@ -1,6 +1,6 @@
 -- `packet::first_tag` meets its contract.
 -- Assumes nothing.
-use Rattle.base.specs.Cases.{cases}
+use Rattle.base.proofs.Cases.{cases}
 use Rattle.packet.proofs.first_tag.Statement.{statement}
 use Rattle.packet.proofs.first_tag.Tie as tie
 

@@ -3,9 +3,9 @@
 use mathlib.Core.Path.{ap, _∙_}
 use borrow.Author.Needs.{needs}
 use Rattle.catalogue.proofs.Columns.{shape-in-column}
-use Rattle.catalogue.specs.Column.{shapeIn}
+use Rattle.catalogue.specs.code.Column.{shapeIn}
 use Rattle.catalogue.specs.Shapes.{shapeAllows}
-use Rattle.packet.specs.Tally.{plainIn}
+use Rattle.packet.specs.code.Tally.{plainIn}
 use Rattle.packet.proofs.is_plain.Statement.{statement}
 use Rattle.packet.proofs.is_plain.Tie as tie
 

@@ -1,7 +1,7 @@
 -- `packet::is_short` meets its contract.
 -- Assumes nothing.
-use Rattle.base.specs.Cases.{cases}
-use Rattle.packet.specs.Headers.{shortForms}
+use Rattle.base.proofs.Cases.{cases}
+use Rattle.packet.specs.code.Headers.{shortForms}
 use Rattle.packet.proofs.is_short.Statement.{statement}
 use Rattle.packet.proofs.is_short.Tie as tie
 

@@ -8,8 +8,9 @@ use borrow.Author.Needs.{needs}
 use lib.ListN.{length, drop}
 use Rattle.refusal.specs.Answer.{given}
 use Rattle.packet.specs.Pieces.{walk}
-use Rattle.packet.specs.Headers.{headerAt, stepSaid, itemBy}
-use Rattle.packet.specs.Tally.{fresh, faultIn, withHeader, tallied, tallySaid}
+use Rattle.packet.specs.Said.{headerAt, stepSaid}
+use Rattle.packet.specs.code.Headers.{itemBy}
+use Rattle.packet.specs.code.Tally.{fresh, faultIn, withHeader, tallied, tallySaid}
 use Rattle.packet.proofs.Faults.{plain-clean}
 use Rattle.packet.proofs.Walks.{walk-end, walk-full, walk-refused, walk-item, Lies, header-lies, header-back, tallied-before, tallied-none}
 use Rattle.packet.proofs.walk_from.Statement.{statement}

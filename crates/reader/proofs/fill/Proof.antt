@@ -9,15 +9,15 @@ use lib.ListN.{length}
 use lib.Seq.{sets}
 use Rattle.refusal.specs.Answer.{given}
 use Rattle.tagset.specs.Sets.{holds}
-use Rattle.catalogue.specs.Column.{shapeColumn}
+use Rattle.catalogue.specs.code.Column.{shapeColumn}
 use Rattle.tagset.specs.declared.TagSet.{TagSet}
 use Rattle.packet.specs.Pieces.{Item, pieces}
 use Rattle.packet.specs.Judge.{fine, judge}
-use Rattle.packet.specs.Headers.{headerAt, stepSaid}
+use Rattle.packet.specs.Said.{headerAt, stepSaid}
 use Rattle.packet.specs.Rows.{rowsOf, words}
 use Rattle.packet.proofs.Walks.{Lies, header-lies}
 use Rattle.packet.proofs.Accepting.{Accepting, accepting, AllFit, fine-fit, walk-few}
-use Rattle.reader.specs.Reads.{orNone, itemsOf, putRow}
+use Rattle.reader.specs.code.Filling.{orNone, itemsOf, putRow}
 use Rattle.reader.proofs.Laws.{value-length}
 use Rattle.reader.proofs.Filling.{Left, none-left, none-refused, Next, next-item}
 use Rattle.reader.proofs.fill.Statement.{statement}

@@ -9,7 +9,7 @@ use lib.ListN.{length}
 use Rattle.refusal.specs.Answer.{given}
 use Rattle.number.specs.Stored.{Bytes}
 use Rattle.knowing.specs.Good.{good}
-use Rattle.packet.specs.Concluded.{checkSaid}
+use Rattle.packet.specs.Said.{checkSaid}
 use Rattle.reader.proofs.Answers.{not-good, short-table, refused-packet, Taken, taken, few, may-fill, filled}
 use Rattle.reader.proofs.read.Statement.{statement}
 use Rattle.reader.proofs.read.Tie as tie

@@ -1,13 +1,13 @@
 -- `records::count` meets its contract: a walk of its MIR, by hand. The count stands beside the pointer, in the slice reference itself, so no borrow is looked
 -- into.
 -- Assumes nothing.
-use Rattle.base.specs.Kit.{refl, ℕ, _<_, _^_, List, [], _∷_, length, URA, named, w64, Val, vint, SProp, ent, emp, via, fst∗, Lft, Share, ftrue, flft, Memory}
-use Rattle.base.specs.Kit.{Routine, Heap, Calls, Loops, WpFn, Tables, Atoms, Fun, givenOf, tables, tablesOf, Given, ‵, raw, _⊛_, _$_, _∵_, !, qed, by}
-use Rattle.base.specs.Kit.{suffices, frame, done, whole, sub, look-in, look, init, stop, fld, from, load, of-opd, assigns, returns, enter, alloc1, alloc0}
-use Rattle.base.specs.Kit.{params1, pass1, pass0, free0, owns, Is, uint-makes, usize, RefT, plain, sliceVal, ShrSlice, slice-vals, shr-slice-tells}
-use Rattle.base.specs.Kit.{shr-slice-lawful, owned, onEntry, Meets, tripleOf, entered, says, Stays, stay-none-slice, walkOf, goes-none-slice, ends-at, yes}
+use Rattle.base.proofs.Kit.{refl, ℕ, _<_, _^_, List, [], _∷_, length, URA, named, w64, Val, vint, SProp, ent, emp, via, fst∗, Lft, Share, ftrue, flft, Memory}
+use Rattle.base.proofs.Kit.{Routine, Heap, Calls, Loops, WpFn, Tables, Atoms, Fun, givenOf, tables, tablesOf, Given, ‵, raw, _⊛_, _$_, _∵_, !, qed, by}
+use Rattle.base.proofs.Kit.{suffices, frame, done, whole, sub, look-in, look, init, stop, fld, from, load, of-opd, assigns, returns, enter, alloc1, alloc0}
+use Rattle.base.proofs.Kit.{params1, pass1, pass0, free0, owns, Is, uint-makes, usize, RefT, plain, sliceVal, ShrSlice, slice-vals, shr-slice-tells}
+use Rattle.base.proofs.Kit.{shr-slice-lawful, owned, onEntry, Meets, tripleOf, entered, says, Stays, stay-none-slice, walkOf, goes-none-slice, ends-at, yes}
 use Rattle.rows.specs.declared.Row.{Row}
-use Rattle.base.specs.Walk.{frees1, meets}
+use Rattle.base.proofs.Walk.{frees1, meets}
 use Rattle.rows.proofs.Row as R
 use Rattle.records.proofs.count.Key.{name as #records·count}
 use Rattle.records.proofs.count as count

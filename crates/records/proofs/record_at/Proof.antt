@@ -3,18 +3,18 @@
 -- A `&[Row]` is Copy: what it owns is had twice, one copy is kept for the exit, and of the other the fractured borrow is looked into. A `Row` owns only
 -- facts, so the result's are made anew.
 -- Assumes nothing.
-use Rattle.base.specs.Kit.{refl, sym, ℕ, _*_, _<_, _^_, arith, List, [], _∷_, length, getD, URA, fullShare, named, w64, tyPtr, Val, vint, vptr, SProp, ent}
-use Rattle.base.specs.Kit.{Lft, GName, Share, Fml, ftrue, fsep, fat, flft, Memory, Routine, Heap, Calls, Loops, WpFn, Tables, Atoms, Fun, givenOf, tables}
-use Rattle.base.specs.Kit.{tablesOf, Given, ‵, _⊛_, ⋆, _$_, _∵_, !, qed, by, move, keep, drop, use1, split, join, rewrite, fsplit, fjoin, suffices, frame}
-use Rattle.base.specs.Kit.{done, whole, sub, look-in, look, look-raw, init, stop, hop, fld, from, load, lit, of-opd, bin, assigns, returns, enter, alloc1}
-use Rattle.base.specs.Kit.{alloc0, params1, pass1, pass0, free0, owns, Is, shows, uint-vals, uint-tells, usize, place-is, elem-out, elem-back, looks-slice}
-use Rattle.base.specs.Kit.{shuts-slice, RefT, plain, sliceVal, ShrSlice, slice-vals, shr-slice-tells, shr-slice-lawful, shr-slice-copy, nothing, owned, Vals}
-use Rattle.base.specs.Kit.{onEntry, Meets, tripleOf, entered, says, needs, Stays, stay-none, stay-none-slice, walkOf, goes-none, goes-none-slice, ends-at}
-use Rattle.base.specs.Kit.{yes}
+use Rattle.base.proofs.Kit.{refl, sym, ℕ, _*_, _<_, _^_, arith, List, [], _∷_, length, getD, URA, fullShare, named, w64, tyPtr, Val, vint, vptr, SProp, ent}
+use Rattle.base.proofs.Kit.{Lft, GName, Share, Fml, ftrue, fsep, fat, flft, Memory, Routine, Heap, Calls, Loops, WpFn, Tables, Atoms, Fun, givenOf, tables}
+use Rattle.base.proofs.Kit.{tablesOf, Given, ‵, _⊛_, ⋆, _$_, _∵_, !, qed, by, move, keep, drop, use1, split, join, rewrite, fsplit, fjoin, suffices, frame}
+use Rattle.base.proofs.Kit.{done, whole, sub, look-in, look, look-raw, init, stop, hop, fld, from, load, lit, of-opd, bin, assigns, returns, enter, alloc1}
+use Rattle.base.proofs.Kit.{alloc0, params1, pass1, pass0, free0, owns, Is, shows, uint-vals, uint-tells, usize, place-is, elem-out, elem-back, looks-slice}
+use Rattle.base.proofs.Kit.{shuts-slice, RefT, plain, sliceVal, ShrSlice, slice-vals, shr-slice-tells, shr-slice-lawful, shr-slice-copy, nothing, owned, Vals}
+use Rattle.base.proofs.Kit.{onEntry, Meets, tripleOf, entered, says, needs, Stays, stay-none, stay-none-slice, walkOf, goes-none, goes-none-slice, ends-at}
+use Rattle.base.proofs.Kit.{yes}
 use denote.Struct.Laws as LL
 use Rattle.records.specs.Images.{none}
 use Rattle.rows.specs.declared.Row.{Row}
-use Rattle.base.specs.Walk.{local, frees1, meets}
+use Rattle.base.proofs.Walk.{local, frees1, meets}
 use Rattle.rows.proofs.Row as R
 use Rattle.rows.proofs.Row.Laws as R′
 use Rattle.records.proofs.record_at.Key.{name as #records·record-at}

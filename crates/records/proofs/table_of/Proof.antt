@@ -6,21 +6,21 @@
 -- rest of the body
 --     loops     the loop, by `loop-rule`, with the number of records left for the variant.        walk    the MIR up to the loop
 -- Assumes nothing.
-use Rattle.base.specs.Kit.{_≡_, refl, _∙_, ap, subst, ℕ, suc, _+_, _<_, _≤_, _^_, arith, Bool, List, [], _∷_, ltb, lt→ltb, ltb→lt, lit<, length, getD}
-use Rattle.base.specs.Kit.{replicate, URA, fullShare, Ty, named, imm, w64, tyInt, tyBool, tyArray, tyRef, loop, Val, vint, vbool, SProp, ent, sep, emp, id⊢}
-use Rattle.base.specs.Kit.{Lft, Share, Fml, ftrue, fat, froom, fdies, flft, Memory, Routine, Heap, Out, Env, afterSeq, afterBlock, afterTurn, Calls, Loops}
-use Rattle.base.specs.Kit.{Wp, atReturn, WpFn, Tables, Atoms, sem, Fun, fact, factI, givenOf, tables, tablesOf, Given, mean, Item, ‵, raw, _⊛_, ⋆, anyQ}
-use Rattle.base.specs.Kit.{atRet, _$_, _∵_, !, qed, by, move, keep, drop, use0, use2, split, rewrite, fsplit, fjoin, suffices, frame, done, look, store, init}
-use Rattle.base.specs.Kit.{forget, stop, from, lit, of-opd, bin, and-then, no-more, assigns, assigns-last, land, stays, leaves-loop, returns, enter, alloc1}
-use Rattle.base.specs.Kit.{alloc0, params1, pass1, pass0, free1, free0, exec, fmOf, RattleType, owns, Is, Makes, pointee, Array, array-lawful, array-makes}
-use Rattle.base.specs.Kit.{uint-vals, uint-tells, uint-makes, uint-lawful, u64, usize, RefT, plain, sliceTy, sliceVal, ShrSlice, slice-vals, shr-slice-tells}
-use Rattle.base.specs.Kit.{shr-slice-lawful, shr-slice-copy, nothing, owned, Contract, Triple, Bound, Vals, onEntry, Meets, tripleOf, entered, cited, says}
-use Rattle.base.specs.Kit.{needs, Stays, stay-none, stay-none-slice, walkOf, goes-none, goes-none-slice, ends-at, yes}
+use Rattle.base.proofs.Kit.{_≡_, refl, _∙_, ap, subst, ℕ, suc, _+_, _<_, _≤_, _^_, arith, Bool, List, [], _∷_, ltb, lt→ltb, ltb→lt, lit<, length, getD}
+use Rattle.base.proofs.Kit.{replicate, URA, fullShare, Ty, named, imm, w64, tyInt, tyBool, tyArray, tyRef, loop, Val, vint, vbool, SProp, ent, sep, emp, id⊢}
+use Rattle.base.proofs.Kit.{Lft, Share, Fml, ftrue, fat, froom, fdies, flft, Memory, Routine, Heap, Out, Env, afterSeq, afterBlock, afterTurn, Calls, Loops}
+use Rattle.base.proofs.Kit.{Wp, atReturn, WpFn, Tables, Atoms, sem, Fun, fact, factI, givenOf, tables, tablesOf, Given, mean, Item, ‵, raw, _⊛_, ⋆, anyQ}
+use Rattle.base.proofs.Kit.{atRet, _$_, _∵_, !, qed, by, move, keep, drop, use0, use2, split, rewrite, fsplit, fjoin, suffices, frame, done, look, store, init}
+use Rattle.base.proofs.Kit.{forget, stop, from, lit, of-opd, bin, and-then, no-more, assigns, assigns-last, land, stays, leaves-loop, returns, enter, alloc1}
+use Rattle.base.proofs.Kit.{alloc0, params1, pass1, pass0, free1, free0, exec, fmOf, RattleType, owns, Is, Makes, pointee, Array, array-lawful, array-makes}
+use Rattle.base.proofs.Kit.{uint-vals, uint-tells, uint-makes, uint-lawful, u64, usize, RefT, plain, sliceTy, sliceVal, ShrSlice, slice-vals, shr-slice-tells}
+use Rattle.base.proofs.Kit.{shr-slice-lawful, shr-slice-copy, nothing, owned, Contract, Triple, Bound, Vals, onEntry, Meets, tripleOf, entered, cited, says}
+use Rattle.base.proofs.Kit.{needs, Stays, stay-none, stay-none-slice, walkOf, goes-none, goes-none-slice, ends-at, yes}
 use denote.Struct.Laws as LL
 use Rattle.records.specs.Images.{none, imageOf, putImage, imagesInto}
 use Rattle.rows.specs.declared.Row.{Row}
 use Rattle.records.proofs.Laws.{images-none, images-more}
-use Rattle.base.specs.Walk.{calls-said, local, frees1, makes, beside, kept, meets, holds, fails, one-more, counted}
+use Rattle.base.proofs.Walk.{calls-said, local, frees1, makes, beside, kept, meets, holds, fails, one-more, counted}
 use Rattle.rows.proofs.Row as R
 use Rattle.rows.proofs.Row.Laws as R′
 use Rattle.records.proofs.blank as blank

@@ -3,16 +3,16 @@
 -- What `records` and `buffer` own is had twice, and kept for the exit. The borrow `out` is given to `write_table` for good, at its own lifetime and name
 -- (`gave-slice`).
 -- Assumes nothing.
-use Rattle.base.specs.Kit.{_≡_, refl, sym, _∙_, ap, subst, ℕ, _≤_, le-refl, le-of-lt, Bool, true, false, not, cond, List, [], _∷_, T, ltb, ltb→lt, nltb→le}
-use Rattle.base.specs.Kit.{length, replicate, URA, named, w64, Val, SProp, ent, sep, emp, via, fst∗, id⊢, Lft, Share, Fml, ftrue, flft, Memory, Routine, Heap}
-use Rattle.base.specs.Kit.{Calls, Loops, WpFn, Tables, Atoms, sem, Fun, fact, factI, givenOf, tables, tablesOf, Given, Item, mean, ‵, raw, _⊛_, ⋆, _$_, _∵_}
-use Rattle.base.specs.Kit.{ !, qed, by, move, keep, drop, use0, use1, use2, split, join, group, fsplit, fjoin, feqL, suffices, frame, done, whole, sub}
-use Rattle.base.specs.Kit.{look-in, agg, look, init, stop, hop, fld, from, load, addr, and-then, no-more, assigns, land, returns, enter, alloc1, alloc0}
-use Rattle.base.specs.Kit.{params1, pass1, pass0, free0, FmC, fmOf, RattleType, Denots, Valss, owns, Is, Are, Ises, Makes, Makess, Array, array-lawful}
-use Rattle.base.specs.Kit.{array-makes, uint-makes, uint-lawful, u8, u64, usize, RefT, name, plain, sliceVal, ShrSlice, MutSlice, finally, slice-vals}
-use Rattle.base.specs.Kit.{shr-slice-tells, shr-slice-lawful, shr-slice-copy, mut-slice-tells, mut-slice-lawful, nothing, owned, Contract, Triple, Bound}
-use Rattle.base.specs.Kit.{Args, Vals, onEntry, Meets, tripleOf, entered, cited, says, Stays, stay-none, stay-none-slice, gave-slice, walkOf, goes-none}
-use Rattle.base.specs.Kit.{goes-none-slice, goes-gave-slice, ends-at, yes}
+use Rattle.base.proofs.Kit.{_≡_, refl, sym, _∙_, ap, subst, ℕ, _≤_, le-refl, le-of-lt, Bool, true, false, not, cond, List, [], _∷_, T, ltb, ltb→lt, nltb→le}
+use Rattle.base.proofs.Kit.{length, replicate, URA, named, w64, Val, SProp, ent, sep, emp, via, fst∗, id⊢, Lft, Share, Fml, ftrue, flft, Memory, Routine, Heap}
+use Rattle.base.proofs.Kit.{Calls, Loops, WpFn, Tables, Atoms, sem, Fun, fact, factI, givenOf, tables, tablesOf, Given, Item, mean, ‵, raw, _⊛_, ⋆, _$_, _∵_}
+use Rattle.base.proofs.Kit.{ !, qed, by, move, keep, drop, use0, use1, use2, split, join, group, fsplit, fjoin, feqL, suffices, frame, done, whole, sub}
+use Rattle.base.proofs.Kit.{look-in, agg, look, init, stop, hop, fld, from, load, addr, and-then, no-more, assigns, land, returns, enter, alloc1, alloc0}
+use Rattle.base.proofs.Kit.{params1, pass1, pass0, free0, FmC, fmOf, RattleType, Denots, Valss, owns, Is, Are, Ises, Makes, Makess, Array, array-lawful}
+use Rattle.base.proofs.Kit.{array-makes, uint-makes, uint-lawful, u8, u64, usize, RefT, name, plain, sliceVal, ShrSlice, MutSlice, finally, slice-vals}
+use Rattle.base.proofs.Kit.{shr-slice-tells, shr-slice-lawful, shr-slice-copy, mut-slice-tells, mut-slice-lawful, nothing, owned, Contract, Triple, Bound}
+use Rattle.base.proofs.Kit.{Args, Vals, onEntry, Meets, tripleOf, entered, cited, says, Stays, stay-none, stay-none-slice, gave-slice, walkOf, goes-none}
+use Rattle.base.proofs.Kit.{goes-none-slice, goes-gave-slice, ends-at, yes}
 use denote.Enum.Laws as EL
 use denote.Struct.Laws as LL
 use Rattle.records.specs.Images.{imagesInto, fitting, tableOf}
@@ -23,7 +23,7 @@ use Rattle.tagset.specs.declared.TagSet.{TagSet}
 use Rattle.records.proofs.Laws.{table-is}
 use Rattle.tagset.proofs.TagSet as K
 use Rattle.tagset.proofs.TagSet.Laws as K′
-use Rattle.base.specs.Walk.{calls-told, calls-said, local, frees1, makes, beside, kept, meets}
+use Rattle.base.proofs.Walk.{calls-told, calls-said, local, frees1, makes, beside, kept, meets}
 use Rattle.rows.proofs.Row as R
 use Rattle.writer.proofs.Writing as N
 use Rattle.writer.proofs.Writing.Laws as N′

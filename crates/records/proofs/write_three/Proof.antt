@@ -1,16 +1,16 @@
 -- `records::write_three` meets its contract: a walk of its MIR, by hand. A local array of records is lent as a `&[Row]` for a lifetime that the walk makes,
 -- `write_records` is called, and the lifetime ends: the local is room again.
 -- Assumes nothing.
-use Rattle.base.specs.Kit.{_≡_, refl, sym, subst, ℕ, List, [], _∷_, lit<, length, URA, fullShare, Ty, named, erased, imm, tyRef, tyArray, Val, WT, hasTy}
-use Rattle.base.specs.Kit.{SProp, ent, sep, emp, via, fst∗, id⊢, Lft, GName, Share, Fml, ftrue, fat, froom, flft, flent, Memory, Routine, Heap, Calls, Loops}
-use Rattle.base.specs.Kit.{WpFn, Tables, Atoms, sem, Fun, givenOf, tables, tablesOf, Given, Item, ‵, raw, _⊛_, ⋆, some, later, _$_, _∵_, !, qed, by, move}
-use Rattle.base.specs.Kit.{keep, drop, use1, use2, split, join, group, pick, rewrite, fsplit, fjoin, feqL, suffices, frame, await, done, whole, sub, look-in}
-use Rattle.base.specs.Kit.{agg, look, init, stop, hop, fld, from, load, lit, of-opd, addr, and-then, no-more, assigns, land, returns, enter, alloc1, alloc0}
-use Rattle.base.specs.Kit.{params1, pass1, pass0, free1, free0, arr-parts, lft-new, lft-end, lent-back, FmC, fmOf, RattleType, owns, Is, pointee, shares}
-use Rattle.base.specs.Kit.{Array, array-lawful, array-vals, array-tells, u8, RefT, name, plain, arrayOf, sliceTy, sliceVal, ShrSlice, MutSlice, Room, finally}
-use Rattle.base.specs.Kit.{slice-vals, shr-slice-tells, shr-slice-lawful, shr-slice-copy, mut-slice-tells, mut-slice-lawful, lends-shr-slice, nothing, owned}
-use Rattle.base.specs.Kit.{only, Contract, Triple, Bound, Args, Vals, onEntry, Meets, tripleOf, entered, cited, says, Stays, stay-none, stay-dropped}
-use Rattle.base.specs.Kit.{stay-none-slice, gave-slice, walkOf, goes-none, goes-dropped, goes-none-slice, goes-gave-slice, ends-at, yes}
+use Rattle.base.proofs.Kit.{_≡_, refl, sym, subst, ℕ, List, [], _∷_, lit<, length, URA, fullShare, Ty, named, erased, imm, tyRef, tyArray, Val, WT, hasTy}
+use Rattle.base.proofs.Kit.{SProp, ent, sep, emp, via, fst∗, id⊢, Lft, GName, Share, Fml, ftrue, fat, froom, flft, flent, Memory, Routine, Heap, Calls, Loops}
+use Rattle.base.proofs.Kit.{WpFn, Tables, Atoms, sem, Fun, givenOf, tables, tablesOf, Given, Item, ‵, raw, _⊛_, ⋆, some, later, _$_, _∵_, !, qed, by, move}
+use Rattle.base.proofs.Kit.{keep, drop, use1, use2, split, join, group, pick, rewrite, fsplit, fjoin, feqL, suffices, frame, await, done, whole, sub, look-in}
+use Rattle.base.proofs.Kit.{agg, look, init, stop, hop, fld, from, load, lit, of-opd, addr, and-then, no-more, assigns, land, returns, enter, alloc1, alloc0}
+use Rattle.base.proofs.Kit.{params1, pass1, pass0, free1, free0, arr-parts, lft-new, lft-end, lent-back, FmC, fmOf, RattleType, owns, Is, pointee, shares}
+use Rattle.base.proofs.Kit.{Array, array-lawful, array-vals, array-tells, u8, RefT, name, plain, arrayOf, sliceTy, sliceVal, ShrSlice, MutSlice, Room, finally}
+use Rattle.base.proofs.Kit.{slice-vals, shr-slice-tells, shr-slice-lawful, shr-slice-copy, mut-slice-tells, mut-slice-lawful, lends-shr-slice, nothing, owned}
+use Rattle.base.proofs.Kit.{only, Contract, Triple, Bound, Args, Vals, onEntry, Meets, tripleOf, entered, cited, says, Stays, stay-none, stay-dropped}
+use Rattle.base.proofs.Kit.{stay-none-slice, gave-slice, walkOf, goes-none, goes-dropped, goes-none-slice, goes-gave-slice, ends-at, yes}
 use lib.Dec.{T as Holds}
 use denote.Enum.Laws as EL
 use denote.Struct.Laws as LL
@@ -22,7 +22,7 @@ use Rattle.records.proofs.Lent.{lies, back}
 use Rattle.tagset.specs.declared.TagSet.{TagSet}
 use Rattle.tagset.proofs.TagSet as K
 use Rattle.tagset.proofs.TagSet.Laws as K′
-use Rattle.base.specs.Walk.{calls-told, local, frees1, meets}
+use Rattle.base.proofs.Walk.{calls-told, local, frees1, meets}
 use Rattle.rows.proofs.Row as R
 use Rattle.rows.proofs.Row.Laws as R′
 use Rattle.writer.proofs.Writing as N

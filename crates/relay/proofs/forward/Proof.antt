@@ -3,7 +3,7 @@
 use mathlib.Core.Path.{refl, sym, ap, _∙_}
 use borrow.Author.Needs.{needs}
 use Rattle.number.proofs.Laws.{bytes-lent}
-use Rattle.packet.specs.Concluded.{checkSaid}
+use Rattle.packet.specs.Said.{checkSaid}
 use Rattle.relay.proofs.Sending.{forward-refused, items-from, forward-sent}
 use Rattle.relay.proofs.forward.Statement.{statement}
 use Rattle.relay.proofs.forward.Tie as tie

@@ -6,7 +6,7 @@ use mathlib.Core.Path.{sym, ap, _∙_}
 use lib.ListN.{length}
 use borrow.Author.Needs.{needs}
 use Rattle.number.proofs.Laws.{bytes-lent}
-use Rattle.packet.specs.Headers.{stepSaid}
+use Rattle.packet.specs.Said.{stepSaid}
 use Rattle.relay.proofs.Items.{Sizing, item-lies, all-counted, sum-done, sum-small, sum-more}
 use Rattle.packet.proofs.Ahead.{not-refused}
 use Rattle.relay.proofs.items_size.Statement.{statement}

@@ -8,8 +8,8 @@ use borrow.Author.Needs.{needs}
 use Rattle.base.specs.Putting.{putInto}
 use Rattle.base.proofs.Putting.{to-write}
 use Rattle.number.proofs.Laws.{bytes-lent}
-use Rattle.packet.specs.Headers.{stepSaid}
-use Rattle.relay.specs.Sends.{itemsFor}
+use Rattle.packet.specs.Said.{stepSaid}
+use Rattle.relay.specs.code.Sends.{itemsFor}
 use Rattle.relay.proofs.Items.{Waiting, item-lies, all-waiting, put-done, put-room, put-more}
 use Rattle.packet.proofs.Ahead.{not-refused}
 use Rattle.relay.proofs.put_items.Statement.{statement}

@@ -2,7 +2,7 @@
 -- Assumes nothing.
 use native.Mathlib.Omega.{arith}
 use borrow.Author.Tests.{lt-ltb, le-ltb}
-use Rattle.base.specs.Cases.{byLt}
+use Rattle.base.proofs.Cases.{byLt}
 use Rattle.rows.proofs.tag_shown.Statement.{statement}
 use Rattle.rows.proofs.tag_shown.Tie as tie
 

@@ -11,7 +11,7 @@ use mir.Syntax.{w64}
 use mir.Val.{SFits, toZ, ofZ}
 use mir.Facts.{toZ-ofZ}
 use Rattle.catalogue.specs.Rows.{isSigned}
-use Rattle.scale.specs.Rule.{Scales, Counted}
+use Rattle.scale.specs.code.Rule.{Scales, Counted}
 use Rattle.scale.specs.Scales.{signed}
 use Rattle.scale.specs.declared.Scale.{Scale}
 use Rattle.scale.proofs.Items.{codes-are, steps-unsigned, steps-signed, origin-signed, counted-scales, unsigned-scales}

@@ -4,7 +4,7 @@ use borrow.Author.Needs.{needs}
 use mir.Syntax.{w64}
 use mir.Val.{SFits}
 use mir.Facts.{toZ-ofZ}
-use Rattle.base.specs.Whole.{natural}
+use Rattle.base.proofs.Whole.{natural}
 use Rattle.scale.proofs.two_sided.Statement.{statement}
 use Rattle.scale.proofs.two_sided.Tie as tie
 

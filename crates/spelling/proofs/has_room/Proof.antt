@@ -3,7 +3,7 @@
 use mathlib.Core.Path.{sym}
 use native.Mathlib.Omega.{arith}
 use borrow.Author.Tests.{leb-true, leb-false}
-use Rattle.base.specs.Cases.{clash}
+use Rattle.base.proofs.Cases.{clash}
 use Rattle.spelling.proofs.has_room.Statement.{statement}
 use Rattle.spelling.proofs.has_room.Tie as tie
 

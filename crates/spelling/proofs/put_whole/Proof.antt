@@ -6,7 +6,7 @@ use lib.IntN.{natAbs}
 use mir.Facts.{toZ-ofZ}
 use mir.Val.{SFits}
 use mir.Syntax.{w64}
-use Rattle.base.specs.Whole.{natural}
+use Rattle.base.proofs.Whole.{natural}
 use Rattle.spelling.proofs.Signs.{whole-below, whole-above}
 use Rattle.spelling.proofs.put_whole.Statement.{statement}
 use Rattle.spelling.proofs.put_whole.Tie as tie

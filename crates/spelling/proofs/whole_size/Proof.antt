@@ -7,7 +7,7 @@ use lib.IntN.{natAbs}
 use mir.Facts.{toZ-ofZ}
 use mir.Val.{SFits}
 use mir.Syntax.{w64}
-use Rattle.base.specs.Whole.{natural}
+use Rattle.base.proofs.Whole.{natural}
 use Rattle.spelling.proofs.Signs.{whole-below, whole-above}
 use Rattle.spelling.proofs.Digits.{decimal-few}
 use Rattle.spelling.proofs.whole_size.Statement.{statement}

@@ -3,7 +3,7 @@
 use mathlib.Core.Path.{sym}
 use native.Mathlib.Omega.{arith}
 use borrow.Author.Tests.{eqb-true, eq-eqb}
-use Rattle.base.specs.Cases.{byBool, same-test}
+use Rattle.base.proofs.Cases.{byBool, same-test}
 use Rattle.tagset.specs.Sets.{within}
 use Rattle.tagset.proofs.Laws.{Words, masks-within, within-low, within-high}
 use Rattle.tagset.proofs.is_within.Statement.{statement}

@@ -3,15 +3,15 @@
 -- The walker is Copy: what it owns is had twice, one copy is kept whole for the exit, and of the other what packet owns goes to each callee, and into the
 -- result's walker.
 -- Assumes nothing.
-use Rattle.base.specs.Kit.{_≡_, refl, ap, subst, ℕ, _<_, _^_, List, [], _∷_, length, URA, fullShare, Ty, named, erased, imm, w8, w64, tyInt, tyRef, Val, WT}
-use Rattle.base.specs.Kit.{hasTy, vint, SProp, ent, sep, emp, via, fst∗, id⊢, Lft, Share, Fml, ftrue, fat, flft, Memory, Routine, Heap, Calls, Loops, WpFn}
-use Rattle.base.specs.Kit.{Tables, Atoms, sem, Lfts, Fun, givenOf, tables, tablesOf, Given, Item, mean, drop, ‵, raw, _⊛_, given, ⋆, _$_, _∵_, !, qed, by}
-use Rattle.base.specs.Kit.{move, keep, use1, use2, split, learn, rewrite, fsplit, fjoin, suffices, frame, whole, sub, look-in, agg, look, init, stop, fld}
-use Rattle.base.specs.Kit.{from, load, of-opd, and-then, no-more, assigns, land, returns, enter, alloc1, alloc0, params1, pass1, pass0, free0, FmC, fmOf}
-use Rattle.base.specs.Kit.{RattleType, Denots, Valss, owns, Is, Are, Ises, Makes, Makess, uint-makes, uint-lawful, u8, u64, usize, RefT, NamedLft, now}
-use Rattle.base.specs.Kit.{namedLft, sliceTy, sliceVal, slice-vals, ShrSlice, shr-slice-tells, shr-slice-lawful, shr-slice-copy, only, owned, nothing}
-use Rattle.base.specs.Kit.{Declared, all-own, ownAt, rest, own-open, own-out, own-shut, Values, Contract, Triple, Bound, Vals, onEntry, Meets, tripleOf}
-use Rattle.base.specs.Kit.{entered, cited, says, Stays, stay-none, walkOf, goes-none, ends-at, yes}
+use Rattle.base.proofs.Kit.{_≡_, refl, ap, subst, ℕ, _<_, _^_, List, [], _∷_, length, URA, fullShare, Ty, named, erased, imm, w8, w64, tyInt, tyRef, Val, WT}
+use Rattle.base.proofs.Kit.{hasTy, vint, SProp, ent, sep, emp, via, fst∗, id⊢, Lft, Share, Fml, ftrue, fat, flft, Memory, Routine, Heap, Calls, Loops, WpFn}
+use Rattle.base.proofs.Kit.{Tables, Atoms, sem, Lfts, Fun, givenOf, tables, tablesOf, Given, Item, mean, drop, ‵, raw, _⊛_, given, ⋆, _$_, _∵_, !, qed, by}
+use Rattle.base.proofs.Kit.{move, keep, use1, use2, split, learn, rewrite, fsplit, fjoin, suffices, frame, whole, sub, look-in, agg, look, init, stop, fld}
+use Rattle.base.proofs.Kit.{from, load, of-opd, and-then, no-more, assigns, land, returns, enter, alloc1, alloc0, params1, pass1, pass0, free0, FmC, fmOf}
+use Rattle.base.proofs.Kit.{RattleType, Denots, Valss, owns, Is, Are, Ises, Makes, Makess, uint-makes, uint-lawful, u8, u64, usize, RefT, NamedLft, now}
+use Rattle.base.proofs.Kit.{namedLft, sliceTy, sliceVal, slice-vals, ShrSlice, shr-slice-tells, shr-slice-lawful, shr-slice-copy, only, owned, nothing}
+use Rattle.base.proofs.Kit.{Declared, all-own, ownAt, rest, own-open, own-out, own-shut, Values, Contract, Triple, Bound, Vals, onEntry, Meets, tripleOf}
+use Rattle.base.proofs.Kit.{entered, cited, says, Stays, stay-none, walkOf, goes-none, ends-at, yes}
 use lib.Dec.{T as Holds}
 use denote.Enum.Laws as EL
 use denote.Struct.Laws as LL
@@ -19,7 +19,7 @@ use Rattle.walker.specs.Steps.{knowing, foundAt, partAt, nextAt}
 use Rattle.walker.specs.declared.Walker.{Walker}
 use Rattle.walker.specs.declared.Passed.{Passed}
 use Rattle.walker.specs.declared.Found.{Found}
-use Rattle.base.specs.Walk.{calls-told, calls-said, local, frees1, beside, kept, meets}
+use Rattle.base.proofs.Walk.{calls-told, calls-said, local, frees1, beside, kept, meets}
 use Rattle.walker.proofs.Held.{held}
 use Rattle.walker.proofs.Walker as T
 use Rattle.walker.proofs.Walker.Laws as T′

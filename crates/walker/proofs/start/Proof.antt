@@ -2,14 +2,14 @@
 -- into the walker.
 -- A `&[u8]` is Copy, so what it owns is had twice: once for packet at exit, and once inside the result's walker.
 -- Assumes nothing.
-use Rattle.base.specs.Kit.{_≡_, refl, ap, ℕ, _<_, _^_, List, [], _∷_, length, URA, fullShare, named, w64, Val, vint, SProp, ent, sep, emp, via, fst∗, id⊢}
-use Rattle.base.specs.Kit.{Lft, Share, Fml, ftrue, fat, flft, Memory, Routine, Heap, Calls, Loops, WpFn, Tables, Atoms, sem, Fun, givenOf, tables, tablesOf}
-use Rattle.base.specs.Kit.{Given, Item, mean, ‵, raw, _⊛_, ⋆, _$_, _∵_, !, qed, by, move, keep, use1, use2, split, rewrite, fsplit, fjoin, suffices, frame}
-use Rattle.base.specs.Kit.{whole, sub, look-in, agg, look, init, stop, fld, from, load, and-then, no-more, assigns, land, returns, enter, alloc1, alloc0}
-use Rattle.base.specs.Kit.{params1, pass1, pass0, free0, FmC, fmOf, owns, Is, uint-vals, uint-tells, uint-makes, u8, u64, RefT, NamedLft, now, plain}
-use Rattle.base.specs.Kit.{namedLft, sliceVal, slice-vals, ShrSlice, shr-slice-tells, shr-slice-lawful, shr-slice-copy, only, owned, nothing, Declared}
-use Rattle.base.specs.Kit.{own-shut, Contract, Triple, Bound, Vals, onEntry, Meets, tripleOf, entered, cited, says, Stays, stay-none, stay-none-slice, walkOf}
-use Rattle.base.specs.Kit.{goes-none, goes-none-slice, ends-at, yes}
+use Rattle.base.proofs.Kit.{_≡_, refl, ap, ℕ, _<_, _^_, List, [], _∷_, length, URA, fullShare, named, w64, Val, vint, SProp, ent, sep, emp, via, fst∗, id⊢}
+use Rattle.base.proofs.Kit.{Lft, Share, Fml, ftrue, fat, flft, Memory, Routine, Heap, Calls, Loops, WpFn, Tables, Atoms, sem, Fun, givenOf, tables, tablesOf}
+use Rattle.base.proofs.Kit.{Given, Item, mean, ‵, raw, _⊛_, ⋆, _$_, _∵_, !, qed, by, move, keep, use1, use2, split, rewrite, fsplit, fjoin, suffices, frame}
+use Rattle.base.proofs.Kit.{whole, sub, look-in, agg, look, init, stop, fld, from, load, and-then, no-more, assigns, land, returns, enter, alloc1, alloc0}
+use Rattle.base.proofs.Kit.{params1, pass1, pass0, free0, FmC, fmOf, owns, Is, uint-vals, uint-tells, uint-makes, u8, u64, RefT, NamedLft, now, plain}
+use Rattle.base.proofs.Kit.{namedLft, sliceVal, slice-vals, ShrSlice, shr-slice-tells, shr-slice-lawful, shr-slice-copy, only, owned, nothing, Declared}
+use Rattle.base.proofs.Kit.{own-shut, Contract, Triple, Bound, Vals, onEntry, Meets, tripleOf, entered, cited, says, Stays, stay-none, stay-none-slice, walkOf}
+use Rattle.base.proofs.Kit.{goes-none, goes-none-slice, ends-at, yes}
 use denote.Enum.Laws as EL
 use denote.Struct.Laws as LL
 use Rattle.packet.specs.Verdict.{checked}
@@ -18,7 +18,7 @@ use Rattle.walker.specs.declared.Walker.{Walker}
 use Rattle.walker.specs.declared.Started.{Started}
 use Rattle.walker.specs.declared.Begun.{Begun}
 use Rattle.walker.specs.declared.Begin.{Begin}
-use Rattle.base.specs.Walk.{calls-said, local, frees1, beside, kept, meets}
+use Rattle.base.proofs.Walk.{calls-said, local, frees1, beside, kept, meets}
 use Rattle.walker.proofs.Held.{held}
 use Rattle.walker.proofs.Walker as T
 use Rattle.walker.proofs.Walker.Laws as T′

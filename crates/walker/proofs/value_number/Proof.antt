@@ -3,17 +3,17 @@
 -- The loop's invariant, where t items are left to pass: `_6` is i, with i + t ≡ k, and `_5` is the walker at item i's place. What the walker owns is made
 -- anew of what packet owns, which is kept.
 -- Assumes nothing.
-use Rattle.base.specs.Kit.{_≡_, refl, _∙_, ap, subst, ℕ, zero, suc, _+_, _<_, _^_, arith, Bool, List, [], _∷_, ltb, lt→ltb, ltb→lt, lit<, length, URA}
-use Rattle.base.specs.Kit.{fullShare, Ty, named, erased, imm, w8, w64, tyInt, tyBool, tyRef, loop, Val, vint, vbool, SProp, ent, sep, emp, via, fst∗, id⊢}
-use Rattle.base.specs.Kit.{Lft, Share, Fml, ftrue, fat, froom, fdies, flft, Memory, Routine, Heap, Out, Env, afterSeq, afterBlock, afterTurn, Calls, Loops}
-use Rattle.base.specs.Kit.{Wp, atReturn, WpFn, Tables, Atoms, sem, Fun, givenOf, tables, tablesOf, Given, Item, Sq, runs, mean, drop, ‵, raw, _⊛_, given, ⋆}
-use Rattle.base.specs.Kit.{anyQ, atRet, _$_, _∵_, !, qed, by, move, keep, use1, use2, split, learn, rewrite, fsplit, fjoin, suffices, frame, done, whole, sub}
-use Rattle.base.specs.Kit.{look-in, look, store, init, forget, stop, fld, from, load, lit, of-opd, bin, and-then, no-more, assigns, assigns-last, land, stays}
-use Rattle.base.specs.Kit.{leaves-loop, returns, enter, alloc1, alloc0, params1, pass1, pass0, free1, free0, exec, fmOf, owns, Is, Makes, uint-vals}
-use Rattle.base.specs.Kit.{uint-tells, uint-makes, u8, u64, usize, RefT, NamedLft, now, plain, sliceTy, sliceVal, slice-vals, ShrSlice, shr-slice-tells}
-use Rattle.base.specs.Kit.{shr-slice-lawful, shr-slice-copy, only, nothing, owned, Declared, all-own, ownAt, rest, own-open, own-out, Values, Contract}
-use Rattle.base.specs.Kit.{Triple, Bound, Vals, onEntry, Meets, tripleOf, entered, cited, says, Stays, stay-none, stay-none-slice, walkOf, goes-none}
-use Rattle.base.specs.Kit.{goes-none-slice, ends-at, yes}
+use Rattle.base.proofs.Kit.{_≡_, refl, _∙_, ap, subst, ℕ, zero, suc, _+_, _<_, _^_, arith, Bool, List, [], _∷_, ltb, lt→ltb, ltb→lt, lit<, length, URA}
+use Rattle.base.proofs.Kit.{fullShare, Ty, named, erased, imm, w8, w64, tyInt, tyBool, tyRef, loop, Val, vint, vbool, SProp, ent, sep, emp, via, fst∗, id⊢}
+use Rattle.base.proofs.Kit.{Lft, Share, Fml, ftrue, fat, froom, fdies, flft, Memory, Routine, Heap, Out, Env, afterSeq, afterBlock, afterTurn, Calls, Loops}
+use Rattle.base.proofs.Kit.{Wp, atReturn, WpFn, Tables, Atoms, sem, Fun, givenOf, tables, tablesOf, Given, Item, Sq, runs, mean, drop, ‵, raw, _⊛_, given, ⋆}
+use Rattle.base.proofs.Kit.{anyQ, atRet, _$_, _∵_, !, qed, by, move, keep, use1, use2, split, learn, rewrite, fsplit, fjoin, suffices, frame, done, whole, sub}
+use Rattle.base.proofs.Kit.{look-in, look, store, init, forget, stop, fld, from, load, lit, of-opd, bin, and-then, no-more, assigns, assigns-last, land, stays}
+use Rattle.base.proofs.Kit.{leaves-loop, returns, enter, alloc1, alloc0, params1, pass1, pass0, free1, free0, exec, fmOf, owns, Is, Makes, uint-vals}
+use Rattle.base.proofs.Kit.{uint-tells, uint-makes, u8, u64, usize, RefT, NamedLft, now, plain, sliceTy, sliceVal, slice-vals, ShrSlice, shr-slice-tells}
+use Rattle.base.proofs.Kit.{shr-slice-lawful, shr-slice-copy, only, nothing, owned, Declared, all-own, ownAt, rest, own-open, own-out, Values, Contract}
+use Rattle.base.proofs.Kit.{Triple, Bound, Vals, onEntry, Meets, tripleOf, entered, cited, says, Stays, stay-none, stay-none-slice, walkOf, goes-none}
+use Rattle.base.proofs.Kit.{goes-none-slice, ends-at, yes}
 use denote.Struct.Laws as LL
 use Rattle.tagset.specs.declared.TagSet.{TagSet}
 use Rattle.walker.specs.Passes.{Starts, Passes}
@@ -21,7 +21,7 @@ use Rattle.walker.specs.Steps.{knowing, partAt, nextAt, startPlace, plac
 use Rattle.walker.specs.declared.Walker.{Walker}
 use Rattle.walker.specs.declared.Started.{Started}
 use Rattle.walker.specs.declared.Passed.{Passed}
-use Rattle.base.specs.Walk.{calls-told, calls-said, local, frees1, beside, kept, meets, holds, fails, one-more, counted}
+use Rattle.base.proofs.Walk.{calls-told, calls-said, local, frees1, beside, kept, meets, holds, fails, one-more, counted}
 use Rattle.walker.proofs.Held.{held}
 use Rattle.walker.proofs.Walker as W
 use Rattle.walker.proofs.Walker.Laws as W′

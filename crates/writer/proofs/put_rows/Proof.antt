@@ -8,10 +8,10 @@ use lib.ListN.{length}
 use Rattle.base.specs.Putting.{putInto}
 use Rattle.base.proofs.Putting.{to-write}
 use Rattle.tagset.specs.Sets.{holds}
-use Rattle.catalogue.specs.Column.{shapeColumn}
+use Rattle.catalogue.specs.code.Column.{shapeColumn}
 use Rattle.packet.specs.Rows.{rowsIn}
 use Rattle.rows.proofs.Laws.{shape-by-column}
-use Rattle.writer.specs.Putting.{tableBytes}
+use Rattle.writer.specs.code.Putting.{tableBytes}
 use Rattle.writer.proofs.Rest.{Left, all-left, table-done, asked, done}
 use Rattle.writer.proofs.put_rows.Statement.{statement}
 use Rattle.writer.proofs.put_rows.Tie as tie

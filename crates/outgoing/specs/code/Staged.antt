@@ -1,10 +1,11 @@
--- The writer's stages over the rows in their words, as they are walked.
+-- The shadow of the code, not to be believed but proved to be what document 01's definitions give: the writer's stages
+-- over the rows in their words, as they are walked.
 use Prim.Native.Nat.{ℕ, _+_, _-_}
 use mathlib.Core.Bool.{cond}
 use mathlib.Core.List.{List, [], _∷_}
 use lib.ListN.{length}
 use lib.Dec.{eqb}
-use Rattle.refusal.specs.Answer.{Answer, given, refused, refusal, then}
+use Rattle.refusal.specs.Answer.{Answer, given, refused, then}
 use Rattle.ber.specs.Written.{tagBytes, lengthBytes}
 use Rattle.tagset.specs.Sets.{holds, withTag}
 use Rattle.tagset.specs.declared.TagSet.{TagSet}
@@ -16,8 +17,6 @@ use Rattle.packet.specs.declared.Ends.{Ends}
 use Rattle.packet.specs.Rows.{rowsIn}
 use Rattle.outgoing.specs.Outgoing.{rightSize}
 use Rattle.outgoing.specs.declared.Packed.{Packed}
-use Rattle.outgoing.specs.declared.Outgoing.{Outgoing}
-use Rattle.outgoing.specs.declared.Outgoing.the-variants.{Fits, Refused}
 
 -- how many bytes a row's item has: tag, length in its shortest form, value
 abbrev pub rowSize : Row → ℕ
@@ -67,8 +66,3 @@ sizedBy K count words packed = then (rightSize (packed .size)) (λ _. closedIn K
 
 abbrev pub sizedIn : TagSet → ℕ → List ℕ → Answer Packed
 sizedIn K count words = sizedBy K count words (packedBy (rowsSize (rowsIn 0 count words)))
-
--- what the code's answers say
-abbrev pub outgoingSaid : Outgoing → Answer Packed
-outgoingSaid (Fits p) = given p
-outgoingSaid (Refused r) = refusal r

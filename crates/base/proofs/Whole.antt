@@ -8,7 +8,7 @@ use lib.IntN.{ℤ, pos, negsuc, natAbs}
 use lib.Signed.{ltZ, nonNeg}
 use mir.Syntax.{w64}
 use mir.Val.{Fits, SFits}
-use Rattle.base.specs.Cases.{clash}
+use Rattle.base.proofs.Cases.{clash}
 
 pub natural : (z : ℤ) → SFits w64 z → ltZ z (pos 0) ≡ false → T (nonNeg z) × Fits w64 (natAbs z)
 natural (pos n) f e = (tt, record { fits = omega (arith, f .sfits) })

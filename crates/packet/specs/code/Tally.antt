@@ -1,4 +1,5 @@
--- What a walk keeps of the items that it has passed, one after another from the left.
+-- The shadow of the code, not to be believed but proved to be what document 01's definitions give: what a walk keeps of the
+-- items that it has passed, one after another from the left.
 use Prim.Native.Nat.{ℕ, _+_}
 use mathlib.Core.Bool.{Bool, true, cond, not, _&&_}
 use mathlib.Core.List.{List, [], _∷_}
@@ -10,7 +11,7 @@ use Rattle.tagset.specs.declared.TagSet.{TagSet}
 use Rattle.catalogue.specs.Shapes.{shapeOf, shapeAllows, codesLimited}
 use Rattle.packet.specs.Pieces.{Item}
 use Rattle.packet.specs.Judge.{Fault, clean, wrong, faultOf}
-use Rattle.packet.specs.Headers.{headerOf}
+use Rattle.packet.specs.code.Headers.{headerOf}
 use Rattle.packet.specs.declared.Header.{Header}
 use Rattle.packet.specs.declared.First.{First}
 use Rattle.packet.specs.declared.First.the-variants as first

@@ -1,4 +1,4 @@
--- How the check is put together: what the walk's tally comes to.
+-- The shadow of the code, not to be believed but proved to be what document 01's definitions give: what the walk's tally comes to.
 use Prim.Native.Nat.{ℕ}
 use mathlib.Core.Bool.{cond}
 use mathlib.Core.List.{List}
@@ -8,16 +8,12 @@ use Rattle.refusal.specs.Answer.{Answer, given, refused, refusal, then}
 use Rattle.tagset.specs.Sets.{holds}
 use Rattle.packet.specs.Ends.{rightEnds}
 use Rattle.packet.specs.Structure.{rightSum}
-use Rattle.packet.specs.Tally.{Tally, Met, none, met}
+use Rattle.packet.specs.code.Tally.{Tally, Met, none, met}
 use Rattle.packet.specs.declared.Accepted.{Accepted}
 use Rattle.packet.specs.declared.Ends.{Ends}
 use Rattle.packet.specs.declared.Header.{Header}
 use Rattle.packet.specs.declared.Frame.{Frame}
 use Rattle.packet.specs.declared.Frame.the-variants as frame
-use Rattle.packet.specs.declared.Right.{Right}
-use Rattle.packet.specs.declared.Right.the-variants as right
-use Rattle.packet.specs.declared.Checked.{Checked}
-use Rattle.packet.specs.declared.Checked.the-variants as checked
 
 -- 12, 13 or 14 where one was met, else 15, else where the items begin and how many there are
 abbrev pub judgedBy : Met → Answer Accepted → Answer Accepted
@@ -52,15 +48,6 @@ concluded p from T = then (rightEnds (endsBy (length p) from T)) (λ _. lastBy p
 abbrev pub walkedBy : List ℕ → ℕ → Answer Tally → Answer Accepted
 walkedBy p from a = then a (concluded p from)
 
--- what the code's answers say
-abbrev pub rightSaid : Right → Answer (Unit {0})
-rightSaid right.Yes = given tt
-rightSaid (right.Refused r) = refusal r
-
 abbrev pub frameSaid : Frame → Answer ℕ
 frameSaid (frame.From at) = given at
 frameSaid (frame.Refused r) = refusal r
-
-abbrev pub checkSaid : Checked → Answer Accepted
-checkSaid (checked.Accepted a) = given a
-checkSaid (checked.Refused r) = refusal r

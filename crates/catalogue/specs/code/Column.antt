@@ -1,4 +1,5 @@
--- The shapes of all tags below 128 as a column of bytes.
+-- The shadow of the code, not to be believed but proved to be what document 01's definitions give: the shapes of all tags
+-- below 128 as a column of bytes.
 use Prim.Native.Nat.{ℕ, zero, suc, _+_, _-_}
 use mathlib.Core.Bool.{true, false, cond}
 use mathlib.Core.List.{List, [], _∷_}

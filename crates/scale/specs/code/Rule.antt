@@ -1,4 +1,5 @@
--- The rule that every scaled item of the table keeps, tested once over the whole table (proofs/Rule.antt), and an item's scale as the code has it.
+-- The shadow of the code, not to be believed but proved to be what document 01's definitions give: the rule that
+-- every scaled item of the table keeps, tested once over the whole table, and an item's scale as the code has it.
 use Prim.Native.Nat.{ℕ, _+_, _-_, _*_, _/_, _%_, _^_, _<_, _≤_}
 use mathlib.Core.Path.{_≡_}
 use mathlib.Core.Bool.{true, false, cond}

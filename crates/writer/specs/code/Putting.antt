@@ -1,4 +1,5 @@
--- What the writer puts into the output, in the terms of the definitions.
+-- The shadow of the code, not to be believed but proved to be what document 01's definitions give: what the writer puts
+-- into the output.
 use Prim.Native.Nat.{ℕ, _*_, _≤_}
 use mathlib.Core.Path.{_≡_}
 use mathlib.Core.List.{List}
@@ -6,11 +7,11 @@ use lib.ListN.{length}
 use Rattle.base.specs.Every.{Each}
 use Rattle.catalogue.specs.declared.Shape.{Shape}
 use Rattle.rows.specs.Meaning.{Row}
+use Rattle.rows.specs.Taken.{GoodRow}
 use Rattle.packet.specs.Pieces.{Piece}
 use Rattle.packet.specs.Judge.{Knowing}
 use Rattle.packet.specs.Encode.{itemBytes, itemsBytes, encode}
 use Rattle.packet.specs.Rows.{valueIn, rowsIn, piecesOf}
-use Rattle.laws.proofs.Rows.{GoodRow}
 
 -- a row's item, its tag having a shape
 abbrev pub rowBytes : Shape → List ℕ → Row → List ℕ

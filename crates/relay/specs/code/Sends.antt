@@ -1,4 +1,5 @@
--- An accepted packet sent on, in the terms of the definitions.
+-- The shadow of the code, not to be believed but proved to be what document 01's definitions give: an accepted packet
+-- sent on.
 use Prim.Native.Nat.{ℕ, _≤_}
 use mathlib.Core.Path.{_≡_}
 use mathlib.Core.Bool.{cond}

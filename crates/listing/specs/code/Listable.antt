@@ -1,0 +1,16 @@
+-- The shadow of the code, not to be believed but proved to be what document 01's definitions give: rows that can be listed.
+use Prim.Native.Nat.{ℕ, _+_, _≤_}
+use mathlib.Core.List.{List}
+use lib.ListN.{length}
+use Rattle.base.specs.Every.{Each}
+use Rattle.rows.specs.Meaning.{Row}
+use Rattle.rows.specs.Taken.{spotPlace, spotLength}
+use Rattle.listing.specs.Lines.{linesOf}
+
+-- a row whose value lies in the packet, and rows whose lines are within the bound
+abbrev pub InPacket : List ℕ → Row → Type 0
+InPacket p r = spotPlace (r .spot) + spotLength (r .spot) ≤ length p
+
+pub record Listable (p : List ℕ) (rs : List Row) : Type 0 where
+  pub inside : Each (InPacket p) rs
+  pub short : length (linesOf p rs) ≤ 21760
