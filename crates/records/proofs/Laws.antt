@@ -15,10 +15,10 @@ use Rattle.catalogue.specs.declared.Item.{Item}
 use Rattle.catalogue.specs.declared.Shape.{Shape}
 use Rattle.catalogue.specs.declared.Shape.the-variants as shape
 use Rattle.catalogue.proofs.Columns.{number-width}
-use Rattle.rows.specs.Kinds.{Row}
+use Rattle.rows.specs.Meaning.{Row}
 use Rattle.rows.specs.declared.Row.{Row as Record}
 use Rattle.rows.specs.declared.Content.{Content}
-use Rattle.records.specs.Images.{widthBy, widthOf, contentImage, imageOf, none, putImage, imagesInto, fitting, tableOf}
+use Rattle.records.specs.Images.{widthBy, widthOf, saysFor, rowSaying, imageOf, none, putImage, imagesInto, fitting, tableOf}
 
 known-by : (i : Item) (b : Bool) → eqb (i .width) 0 ≡ b → i .width ≡ widthBy (cond b shape.Text (shape.Number (i .width) (isMarked (i .sign))))
 known-by i true e = eqb-true _ 0 e
@@ -40,9 +40,9 @@ width-by t shape.Absent e = omega arith
 pub width-small : (t : ℕ) → widthOf t ≤ 8
 width-small t = width-by t (shapeOf t) refl
 
-pub image-by : (r : Record) (c : Content) → r .content ≡ c → contentImage (r .tag) c ≡ imageOf r
+pub image-by : (r : Record) (c : Content) → r .content ≡ c → rowSaying (r .tag) (saysFor (r .tag) c) ≡ imageOf r
 unfolding imageOf
-image-by r c e = ap (contentImage (r .tag)) (sym e)
+image-by r c e = ap (λ x. rowSaying (r .tag) (saysFor (r .tag) x)) (sym e)
 
 -- the four stores, one after the other
 pub puts : (t : List ℕ) (n : ℕ) (r s : Row) → r ≡ s → set (set (set (set t (4 * n) (r .tag)) (4 * n + 1) (r .kind)) (4 * n + 2) (r .code)) (4 * n + 3)

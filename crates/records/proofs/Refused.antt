@@ -1,25 +1,30 @@
 -- What the writer over records refuses by its cover alone: over 128 records, and a part that a word cannot hold.
 -- Assumes nothing.
-use Prim.Native.Nat.{ℕ, _^_, _<_, _≤_}
+use Prim.Native.Nat.{ℕ, zero, suc, _+_, _^_, _<_, _≤_}
 use native.Mathlib.Omega.{arith}
-use mathlib.Core.Path.{_≡_, refl}
-use mathlib.Core.Bool.{Bool, true, false, cond, _&&_}
+use mathlib.Core.Path.{_≡_, refl, ap, _∙_}
+use mathlib.Core.Bool.{Bool, true, false, _&&_}
 use mathlib.Core.List.{List}
 use lib.Dec.{ltb, eqb}
-use lib.ListN.{length}
+use lib.ListN.{length, getD}
 use borrow.Author.Tests.{ne-eqb, lt-leb, le-ltb}
+use Rattle.base.proofs.Cases.{byBool, byEq}
 use Rattle.refusal.specs.Answer.{refused}
+use Rattle.tagset.specs.Sets.{holds}
 use Rattle.tagset.specs.declared.TagSet.{TagSet}
 use Rattle.knowing.specs.Good.{good}
 use Rattle.catalogue.specs.declared.Shape.{Shape}
 use Rattle.catalogue.specs.declared.Shape.the-variants.{Text, Number, Absent}
-use Rattle.rows.specs.Kinds.{Row, kindIn, markCode}
-use Rattle.rows.specs.Taken.{tagGood, contentGood, rowGood}
+use Rattle.rows.specs.Meaning.{Meaning, Row, shapeFor, kindFor, markCode, readingKind, markKind}
+use Rattle.rows.specs.Taken.{tagGood, rowGood, tagShown, rowAt, GoodRow}
 use Rattle.rows.specs.declared.Part.{Part}
 use Rattle.rows.specs.declared.Row.{Row as Record}
-use Rattle.outgoing.specs.Outgoing.{outgoing}
+use Rattle.packet.specs.Judge.{Knowing}
+use Rattle.packet.specs.Rows.{rowsIn}
+use Rattle.outgoing.specs.Outgoing.{rightRows, outgoing}
 use Rattle.writer.specs.Writes.{written}
-use Rattle.records.specs.Images.{partImage, tableOf}
+use Rattle.records.specs.Images.{saysFor, partIn, holdable, noKind, rowSaying, imageOf, none, tableOf}
+use Rattle.records.proofs.Same.{table-at, count-fits}
 
 -- "a list of over 128 records gets 16"
 pub too-many : (K : TagSet) (rs : List Record) (b : List ℕ) (room : ℕ) → good K ≡ true → 128 < length rs
@@ -27,35 +32,66 @@ pub too-many : (K : TagSet) (rs : List Record) (b : List ℕ) (room : ℕ) → g
 unfolding written outgoing
 too-many K rs b room s h = rw (s, lt-leb _ _ h)
 
--- no shape and no code has kind 0
-kind-some : (s : Shape) (code : ℕ) → kindIn s code ≡ 0 → ⊥
-kind-some (Number width marked) code e = by (marked && eqb code (markCode width)) e
-  where
-    by : (b : Bool) → _≡_ {A = ℕ} (cond b 2 1) 0 → ⊥
-    by true e = omega (arith, e)
-    by false e = omega (arith, e)
+-- no shape and no code has no kind
+kind-some : (s : Shape) (code : ℕ) → noKind ≡ kindFor s code → ⊥
+kind-some (Number width marked) code e =
+    byBool (marked && eqb code (markCode width))
+    (λ m. let z : noKind ≡ markKind = rw m at e in omega (arith, z))
+    (λ m. let z : noKind ≡ readingKind = rw m at e in omega (arith, z))
 kind-some Text code e = omega (arith, e)
 kind-some Absent code e = omega (arith, e)
 
-with-false : (a b : Bool) → a && (false && b) ≡ false
-with-false true b = refl
-with-false false b = refl
+with-false : (a : Bool) → a && false ≡ false
+with-false true = refl
+with-false false = refl
 
-kind-none-bad : (s : Shape) (room : ℕ) (r : Row) → r .kind ≡ 0 → rowGood s room r ≡ false
+-- what a word cannot hold makes a bad row for every receiver and every buffer
+pub unheld-bad : (s : Shape) (room tag : ℕ) (m : Meaning Part) → holdable (partIn m) ≡ false → rowGood s room (rowSaying tag m) ≡ false
 unfolding rowGood
-kind-none-bad s room r e =
-    let other : r .kind ≡ kindIn s (r .code) → ⊥ = λ f. kind-some s (r .code) (omega (arith, e, f)) in
-    rw (ne-eqb (r .kind) (kindIn s (r .code)) other) (with-false (tagGood (r .tag)) (contentGood s room r))
+unheld-bad s room tag m e = rw (e, ne-eqb noKind (kindFor s 0) (kind-some s 0)) (with-false (tagGood tag))
 
 both-false : (a b : Bool) → (a ≡ true → b ≡ false) → a && b ≡ false
 both-false true b f = f refl
 both-false false b f = refl
 
--- a place or a length that a word cannot hold makes a bad row for every receiver and every buffer
-pub large-place-bad : (s : Shape) (room tag kind : ℕ) (part : Part) → 2 ^ 48 ≤ part .place → rowGood s room (partImage tag kind part) ≡ false
-large-place-bad s room tag kind part h = rw (le-ltb (part .place) (2 ^ 48) h) (kind-none-bad s room (record { tag = tag; kind = 0; code = 0; spot = 0 }) refl)
+pub large-place-bad : (s : Shape) (room tag : ℕ) (m : Meaning Part) → 2 ^ 48 ≤ partIn m .place → rowGood s room (rowSaying tag m) ≡ false
+large-place-bad s room tag m h = unheld-bad s room tag m (rw (le-ltb (partIn m .place) (2 ^ 48) h))
 
-pub long-part-bad : (s : Shape) (room tag kind : ℕ) (part : Part) → 65536 ≤ part .length → rowGood s room (partImage tag kind part) ≡ false
-long-part-bad s room tag kind part h =
-    rw (both-false (ltb (part .place) (2 ^ 48)) (ltb (part .length) 65536) (λ e. le-ltb (part .length) 65536 h))
-    (kind-none-bad s room (record { tag = tag; kind = 0; code = 0; spot = 0 }) refl)
+pub long-part-bad : (s : Shape) (room tag : ℕ) (m : Meaning Part) → 65536 ≤ partIn m .length → rowGood s room (rowSaying tag m) ≡ false
+long-part-bad s room tag m h = unheld-bad s room tag m (both-false (ltb (partIn m .place) (2 ^ 48)) _ (λ e. le-ltb (partIn m .length) 65536 h))
+
+-- ---- the first bad row gets 17 with its number and its tag
+module _ (K : Knowing) (b : List ℕ) where
+  first-bad-row : (k n : ℕ) (t : List ℕ) (j : ℕ) → k ≤ j → j < k + n → ((i : ℕ) → k ≤ i → i < j → GoodRow K b (rowAt t i))
+      → rowGood (shapeFor K (rowAt t j .tag)) (length b) (rowAt t j) ≡ false
+      → rightRows K (length b) k (rowsIn k n t) ≡ refused 17 j (tagShown (rowAt t j .tag))
+  unfolding rightRows rowsIn
+  first-bad-row k zero t j l m g f = absurd (omega (arith, l, m))
+  first-bad-row k (suc n) t j l m g f =
+      byEq k j
+      (λ same. rw (same, f))
+      (λ other. rw (g k (omega arith) (omega (arith, l, other)))
+      (first-bad-row (suc k) n t j (omega (arith, l, other)) (omega (arith, m)) (λ i o. g i (omega (arith, o))) f))
+
+image-tag : (r : Record) → imageOf r .tag ≡ r .tag
+unfolding imageOf
+image-tag r = byBool (holdable (partIn (saysFor (r .tag) (r .content)))) (λ e. rw e) (λ e. rw e)
+
+module _ (K : TagSet) (rs : List Record) (b : List ℕ) (room k : ℕ) (right : good K ≡ true) (few : length rs ≤ 128) (one : k < length rs)
+    (earlier : (j : ℕ) → j < k → GoodRow (holds K) b (imageOf (getD rs j none))) where
+  -- of up to 128 records, the first whose image is bad
+  pub first-bad : rowGood (shapeFor (holds K) (imageOf (getD rs k none) .tag)) (length b) (imageOf (getD rs k none)) ≡ false
+      → written K (length rs) (tableOf rs) b room ≡ refused 17 k (tagShown (getD rs k none .tag))
+  unfolding written outgoing
+  first-bad f =
+      let at : (j : ℕ) → j ≤ k → rowAt (tableOf rs) j ≡ imageOf (getD rs j none) = λ j l. table-at rs few j (omega (arith, l, one)) in
+      let tag : rowAt (tableOf rs) k .tag ≡ getD rs k none .tag = ap (λ (x : Row). x .tag) (at k (omega arith)) ∙ image-tag (getD rs k none) in
+      let before : (j : ℕ) → 0 ≤ j → j < k → GoodRow (holds K) b (rowAt (tableOf rs) j) = λ j _ l. rw (at j (omega (arith, l))) (earlier j l) in
+      let bad : rowGood (shapeFor (holds K) (rowAt (tableOf rs) k .tag)) (length b) (rowAt (tableOf rs) k) ≡ false = rw (at k (omega arith)) f in
+      rw (right, count-fits rs few, first-bad-row (holds K) b 0 (length rs) (tableOf rs) k (omega arith) (omega (arith, one)) before bad, tag)
+
+  -- and so one that no word can hold
+  pub unheld-refused : holdable (partIn (saysFor (getD rs k none .tag) (getD rs k none .content))) ≡ false
+      → written K (length rs) (tableOf rs) b room ≡ refused 17 k (tagShown (getD rs k none .tag))
+  unfolding imageOf
+  unheld-refused e = first-bad (unheld-bad _ (length b) (getD rs k none .tag) (saysFor (getD rs k none .tag) (getD rs k none .content)) e)

@@ -13,26 +13,26 @@ use borrow.Author.Tests.{eqb-true, eq-eqb, ne-eqb, lt-ltb, le-ltb, le-leb}
 use Rattle.base.proofs.Cases.{byBool, byEq, byLt, never}
 use Rattle.base.specs.Every.{Each}
 use Rattle.base.proofs.Every.{both-left, both-right, both-true}
-use Rattle.refusal.specs.Answer.{given, refused}
+use Rattle.refusal.specs.Answer.{given, refused, map, then}
 use Rattle.tagset.specs.Sets.{holds}
 use Rattle.tagset.specs.declared.TagSet.{TagSet}
 use Rattle.knowing.specs.Good.{good}
 use Rattle.catalogue.specs.Shapes.{shapeOf}
 use Rattle.catalogue.specs.declared.Shape.{Shape}
 use Rattle.catalogue.specs.declared.Shape.the-variants.{Text, Number, Absent}
-use Rattle.rows.specs.Kinds.{Row, shapeFor, kindIn, markCode}
-use Rattle.rows.specs.Taken.{spotPlace, spotLength, tagGood, codeGood, contentGood, rowGood, countGood, tagShown, rowAt, partOf, rowTakenAt, GoodRow}
+use Rattle.rows.specs.Meaning.{Row, shapeFor, kindFor, markCode, readingKind, markKind, textKind, carriedKind, saidBy}
+use Rattle.rows.specs.Taken.{spotPlace, spotLength, tagGood, codeGood, contentGood, rowGood, countGood, tagShown, rowAt, partOf, contentOf, rowTakenAt, GoodRow}
 use Rattle.rows.specs.declared.Row.{Row as Record}
-use Rattle.rows.specs.declared.Content.the-variants as content
+use Rattle.rows.specs.declared.Part.{Part}
 use Rattle.packet.specs.Judge.{Knowing}
 use Rattle.packet.specs.Rows.{rowsIn, pieceOf, piecesOf}
-use Rattle.outgoing.specs.Outgoing.{sendable, outgoingRows, outgoing}
-use Rattle.outgoing.proofs.Stages.{good-otherwise}
+use Rattle.outgoing.specs.Outgoing.{outgoing}
+use Rattle.outgoing.proofs.Stages.{good-all}
 use Rattle.rows.proofs.Laws.{count-good}
 use Rattle.writer.specs.declared.Writing.{Writing}
-use Rattle.writer.specs.Writes.{Writes, roomy, written, bytesCount, outputBy, writeAnswer, writeOutput}
-use Rattle.records.specs.Images.{widthBy, widthOf, partImage, contentImage, imageOf, none, putImage, imagesInto, fitting, tableOf}
-use Rattle.records.specs.TakenOut.{Words, TakenOut, taken, takenAt, takenFrom}
+use Rattle.writer.specs.Writes.{Writes, roomy, written, writtenBy, outputBy, writeAnswer, writeOutput}
+use Rattle.records.specs.Images.{widthBy, widthOf, saysFor, rowWith, rowSaying, imageOf, none, putImage, imagesInto, fitting, tableOf}
+use Rattle.records.specs.TakenOut.{Words, TakenOut, taken, takenFrom}
 use Rattle.records.proofs.Laws.{width-small}
 
 -- a row with another fourth word
@@ -46,48 +46,53 @@ known-shape K t width marked e =
     (λ k. let f : shapeOf t ≡ Number width marked = rw k at e in ap widthBy f)
     (λ k. let f : Absent ≡ Number width marked = rw k at e in never (cc))
 
-two-then : (b : Bool) → _≡_ {A = ℕ} 2 (cond b 2 1) → b ≡ true
-two-then true e = refl
-two-then false e = absurd (omega (arith, e))
-
-else-one : (b : Bool) (k : ℕ) → k ≡ cond b 2 1 → (k ≡ 2 → ⊥) → _≡_ {A = ℕ} 1 k
-else-one true k e f = absurd (f e)
-else-one false k e f = sym e
-
 words-of : {t t′ k k′ c c′ s s′ : ℕ} → t ≡ t′ → k ≡ k′ → c ≡ c′ → s ≡ s′
     → _≡_ {A = Row} (record { tag = t; kind = k; code = c; spot = s }) (record { tag = t′; kind = k′; code = c′; spot = s′ })
 words-of o p q h i = record { tag = o i; kind = p i; code = q i; spot = h i }
 
 -- ---- the image of a row that is not bad
 module _ (r : Row) where
-  -- a number's is the row with place 0
-  number-image : (width : ℕ) (marked : Bool) → widthOf (r .tag) ≡ width → r .kind ≡ kindIn (Number width marked) (r .code)
-      → imageOf (taken (Number width marked) r) ≡ placed r width
+  -- by what its kind says
+  abbrev said : ℕ → Row
+  said kind = rowSaying (r .tag) (saysFor (r .tag) (contentOf (saidBy kind (r .code) (spotLength (r .spot)) (partOf (r .spot)))))
+
+  image-said : (kind : ℕ) → r .kind ≡ kind → imageOf (taken r) ≡ said kind
   unfolding imageOf
-  number-image width marked w k =
-      byEq (r .kind) 2
-      (λ two.
-      let m : eqb (r .code) (markCode width) ≡ true = both-right marked _ (two-then (marked && eqb (r .code) (markCode width)) (sym two ∙ k)) in
-      ap (λ b. contentImage (r .tag) (cond b content.Mark (content.Reading (r .code)))) (eq-eqb (r .kind) 2 two)
-      ∙ words-of refl (sym two) (ap markCode w ∙ sym (eqb-true _ _ m)) w)
-      (λ other.
-      ap (λ b. contentImage (r .tag) (cond b content.Mark (content.Reading (r .code)))) (ne-eqb (r .kind) 2 other)
-      ∙ words-of refl (else-one (marked && eqb (r .code) (markCode width)) (r .kind) k other) refl w)
+  image-said kind e = ap said e
+
+  -- words put together that are its own, but for the fourth
+  row-is : (kind code : ℕ) (part : Part) (spot : ℕ) → kind ≡ r .kind → code ≡ r .code → part .place < 2 ^ 48 → part .length < 65536
+      → part .place * 65536 + part .length ≡ spot → rowWith (r .tag) kind code part ≡ placed r spot
+  row-is kind code part spot k c p l e = rw (lt-ltb (part .place) (2 ^ 48) p, lt-ltb (part .length) 65536 l) (words-of refl k c e)
+
+  -- a number's is the row with place 0
+  number-image : (width : ℕ) (marked : Bool) → widthOf (r .tag) ≡ width → width ≤ 8 → r .kind ≡ kindFor (Number width marked) (r .code)
+      → imageOf (taken r) ≡ placed r width
+  number-image width marked w small k =
+      byBool (marked && eqb (r .code) (markCode width))
+      (λ m.
+      let two : r .kind ≡ markKind = k ∙ rw m in
+      image-said markKind two ∙ number markKind _ (sym two) (ap markCode w ∙ sym (eqb-true _ _ (both-right marked _ m))))
+      (λ m.
+      let one : r .kind ≡ readingKind = k ∙ rw m in
+      image-said readingKind one ∙ number readingKind _ (sym one) refl)
+    where
+      number : (kind code : ℕ) → kind ≡ r .kind → code ≡ r .code
+          → rowWith (r .tag) kind code (record { place = 0; length = widthOf (r .tag) }) ≡ placed r width
+      number kind code k c =
+          row-is kind code (record { place = 0; length = widthOf (r .tag) }) width k c (omega arith) (omega (arith, w, small)) (omega (arith, w))
 
   -- what a fourth word says is put together again
-  part-image : (kind : ℕ) → r .spot < 2 ^ 64 → r .kind ≡ kind → r .code ≡ 0 → partImage (r .tag) kind (partOf (r .spot)) ≡ r
-  part-image kind h k c =
-      let place : spotPlace (r .spot) < 2 ^ 48 = omega (arith, h) in
-      let short : spotLength (r .spot) < 65536 = omega arith in
-      ap (λ b. cond b (record { tag = r .tag; kind = kind; code = 0; spot = spotPlace (r .spot) * 65536 + spotLength (r .spot) })
-      (record { tag = r .tag; kind = 0; code = 0; spot = 0 }))
-      (both-true _ _ (lt-ltb _ _ place) (lt-ltb _ _ short))
-      ∙ words-of refl (sym k) (sym c) (div-add-mod' (r .spot) 65536)
+  part-image : (kind : ℕ) → said kind ≡ rowWith (r .tag) kind 0 (partOf (r .spot)) → r .spot < 2 ^ 64 → r .kind ≡ kind → r .code ≡ 0
+      → imageOf (taken r) ≡ r
+  part-image kind e h k c =
+      image-said kind k
+      ∙ (e ∙ row-is kind 0 (partOf (r .spot)) (r .spot) (sym k) (sym c) (omega (arith, h)) (omega arith) (div-add-mod' (r .spot) 65536))
 
 -- what it is not to be bad, part by part
 record Fine (s : Shape) (room : ℕ) (r : Row) : Type 0 where
   tagged : tagGood (r .tag) ≡ true
-  kind : r .kind ≡ kindIn s (r .code)
+  kind : r .kind ≡ kindFor s (r .code)
   content : contentGood s room r ≡ true
 
 fine : (s : Shape) (room : ℕ) (r : Row) → rowGood s room r ≡ true → Fine s room r
@@ -96,8 +101,8 @@ fine s room r e =
     let e′ = both-right (tagGood (r .tag)) _ e in
     record {
       tagged = both-left (tagGood (r .tag)) _ e;
-      kind = eqb-true _ _ (both-left (eqb (r .kind) (kindIn s (r .code))) _ e′);
-      content = both-right (eqb (r .kind) (kindIn s (r .code))) _ e′;
+      kind = eqb-true _ _ (both-left (eqb (r .kind) (kindFor s (r .code))) _ e′);
+      content = both-right (eqb (r .kind) (kindFor s (r .code))) _ e′;
     }
 
 fine-good : (s : Shape) (room : ℕ) (r : Row) → Fine s room r → rowGood s room r ≡ true
@@ -126,16 +131,16 @@ module _ (K : Knowing) (b : List ℕ) (r : Row) where
   same-alike : (s : Row) → s ≡ r → GoodRow K b r → Alike K b r s
   same-alike s e g = record { kept = rw e g; piece = ap (pieceOf K b) e }
 
-  alike : r .spot < 2 ^ 64 → GoodRow K b r → Alike K b r (imageOf (taken (shapeFor K (r .tag)) r))
-  unfolding imageOf
+  alike : r .spot < 2 ^ 64 → GoodRow K b r → Alike K b r (imageOf (taken r))
   alike h g = go (shapeFor K (r .tag)) refl (fine (shapeFor K (r .tag)) (length b) r g)
     where
-      go : (s : Shape) → shapeFor K (r .tag) ≡ s → Fine s (length b) r → Alike K b r (imageOf (taken s r))
+      go : (s : Shape) → shapeFor K (r .tag) ≡ s → Fine s (length b) r → Alike K b r (imageOf (taken r))
       go (Number width marked) f p =
           let w : widthOf (r .tag) ≡ width = known-shape K (r .tag) width marked f in
-          subst (Alike K b r) (sym (number-image r width marked w (p .kind))) (number-alike width marked f (subst (λ n. n ≤ 8) w (width-small (r .tag))) p)
-      go Text f p = same-alike _ (part-image r 3 h (p .kind) (eqb-true _ _ (both-left (eqb (r .code) 0) _ (p .content)))) g
-      go Absent f p = same-alike _ (part-image r 4 h (p .kind) (eqb-true _ _ (both-left (eqb (r .code) 0) _ (p .content)))) g
+          let small : width ≤ 8 = subst (λ n. n ≤ 8) w (width-small (r .tag)) in
+          subst (Alike K b r) (sym (number-image r width marked w small (p .kind))) (number-alike width marked f small p)
+      go Text f p = same-alike _ (part-image r textKind refl h (p .kind) (eqb-true _ _ (both-left (eqb (r .code) 0) _ (p .content)))) g
+      go Absent f p = same-alike _ (part-image r carriedKind refl h (p .kind) (eqb-true _ _ (both-left (eqb (r .code) 0) _ (p .content)))) g
 
 -- ---- the table's rows are the images
 length-images : (n : ℕ) (rs : List Record) (t : List ℕ) → length (imagesInto n rs t) ≡ length t
@@ -213,7 +218,10 @@ length-table : (rs : List Record) → length (tableOf rs) ≡ 512
 unfolding tableOf
 length-table rs = length-images (fitting (length rs)) rs (replicate 512 0)
 
-table-at : (rs : List Record) → length rs ≤ 128 → (k : ℕ) → k < length rs → rowAt (tableOf rs) k ≡ imageOf (getD rs k none)
+pub count-fits : (rs : List Record) → length rs ≤ 128 → countGood (length rs) (length (tableOf rs)) ≡ true
+count-fits rs h = both-true _ _ (le-leb _ _ h) (le-leb (4 * length rs) (length (tableOf rs)) (rw (length-table rs) (omega (arith, h))))
+
+pub table-at : (rs : List Record) → length rs ≤ 128 → (k : ℕ) → k < length rs → rowAt (tableOf rs) k ≡ imageOf (getD rs k none)
 unfolding tableOf
 table-at rs h k l =
     let all = fitting-all (length rs) h in
@@ -223,7 +231,7 @@ table-at rs h k l =
 record Took (K : TagSet) (room n k : ℕ) (w : List ℕ) (x : Record) : Type 0 where
   counted : countGood n (length w) ≡ true
   kept : rowGood (shapeFor (holds K) (rowAt w k .tag)) room (rowAt w k) ≡ true
-  is : takenAt (holds K) w k ≡ x
+  is : taken (rowAt w k) ≡ x
 
 took : (K : TagSet) (room n k : ℕ) (w : List ℕ) (x : Record) → rowTakenAt K room n k w ≡ given x → Took K room n k w x
 unfolding rowTakenAt
@@ -232,7 +240,7 @@ took K room n k w x e =
     (λ s. byBool (countGood n (length w))
     (λ c. byBool (ltb k n)
     (λ l. byBool (rowGood (shapeFor (holds K) (rowAt w k .tag)) room (rowAt w k))
-    (λ g. let f : given (takenAt (holds K) w k) ≡ given x = rw (s, c, l, g) at e in record { counted = c; kept = g; is = cc })
+    (λ g. let f : given (taken (rowAt w k)) ≡ given x = rw (s, c, l, g) at e in record { counted = c; kept = g; is = cc })
     (λ g. let f : refused 17 k (tagShown (rowAt w k .tag)) ≡ given x = rw (s, c, l, g) at e in never (cc)))
     (λ l. let f : refused 17 k 0 ≡ given x = rw (s, c, l) at e in never (cc)))
     (λ c. let f : refused 16 0 0 ≡ given x = rw (s, c) at e in never (cc)))
@@ -254,6 +262,12 @@ module _ (K : Knowing) (b : List ℕ) where
 spot-fits : (w : List ℕ) → Words w → (k : ℕ) → rowAt w k .spot < 2 ^ 64
 unfolding rowAt
 spot-fits w h k = h .word (4 * k + 3)
+
+-- what is written settles the outcome
+written-alike : (K : TagSet) (n : ℕ) (t u b o o′ : List ℕ) (z : Writing) → written K n t b (length o) ≡ written K n u b (length o)
+    → Writes K n t b o z o′ → Writes K n u b o z o′
+unfolding writeAnswer writeOutput
+written-alike K n t u b o o′ z s e = record { answer = e .answer ∙ ap (map writtenBy) s; output = e .output ∙ ap (outputBy o) s }
 
 module _ (K : TagSet) (w b : List ℕ) (rs : List Record) (h : Words w) (p : TakenOut K (length b) w rs) where
   all-took : (k : ℕ) → k < length rs → Took K (length b) (length rs) k w (getD rs k none)
@@ -278,51 +292,37 @@ module _ (K : TagSet) (w b : List ℕ) (rs : List Record) (h : Words w) (p : Tak
   pieces-are : piecesOf (holds K) b (rowsIn 0 (length rs) (tableOf rs)) ≡ piecesOf (holds K) b (rowsIn 0 (length rs) w)
   pieces-are = same-pieces (holds K) b 0 (length rs) (tableOf rs) w (λ j l m. alike-at j (omega (arith, m)) .piece)
 
-  rows-same : outgoingRows (holds K) b (rowsIn 0 (length rs) (tableOf rs)) ≡ outgoingRows (holds K) b (rowsIn 0 (length rs) w)
-  unfolding outgoingRows
-  rows-same =
-      good-otherwise (holds K) b 0 (rowsIn 0 (length rs) (tableOf rs)) _ table-good
-      ∙ (ap (sendable (holds K)) pieces-are ∙ sym (good-otherwise (holds K) b 0 (rowsIn 0 (length rs) w) _ words-good))
-
   outgoing-same : outgoing K (length rs) (tableOf rs) b ≡ outgoing K (length rs) w b
   unfolding outgoing
   outgoing-same =
-      let l : countGood (length rs) (length (tableOf rs)) ≡ true = both-true _ _ (le-leb _ _ (few .0))
-      (le-leb (4 * length rs) (length (tableOf rs)) (rw (length-table rs) (omega (arith, few .0)))) in
       let m : countGood (length rs) (length w) ≡ true = both-true _ _ (le-leb _ _ (few .0)) (le-leb _ _ (few .1)) in
-      rw (l, m, rows-same)
+      rw (count-fits rs (few .0), m, good-all (holds K) b 0 (rowsIn 0 (length rs) (tableOf rs)) table-good, good-all (holds K) b 0 (rowsIn 0 (length rs) w) words-good, pieces-are)
 
   -- the same packet or the same refusal, for any room
   pub records-written : (room : ℕ) → written K (length rs) (tableOf rs) b room ≡ written K (length rs) w b room
   unfolding written
-  records-written room = ap (roomy room) outgoing-same
+  records-written room = ap (λ a. then a (roomy room)) outgoing-same
 
   -- so one contract holds of an outcome where the other does
   pub records-then-words : (o o′ : List ℕ) (z : Writing) → Writes K (length rs) (tableOf rs) b o z o′ → Writes K (length rs) w b o z o′
-  unfolding writeAnswer writeOutput
-  records-then-words o o′ z e = record {
-    answer = e .answer ∙ ap bytesCount (records-written (length o));
-    output = e .output ∙ ap (outputBy o) (records-written (length o));
-  }
+  records-then-words o o′ z = written-alike K (length rs) (tableOf rs) w b o o′ z (records-written (length o))
 
   pub words-then-records : (o o′ : List ℕ) (z : Writing) → Writes K (length rs) w b o z o′ → Writes K (length rs) (tableOf rs) b o z o′
-  unfolding writeAnswer writeOutput
-  words-then-records o o′ z e = record {
-    answer = e .answer ∙ sym (ap bytesCount (records-written (length o)));
-    output = e .output ∙ sym (ap (outputBy o) (records-written (length o)));
-  }
+  words-then-records o o′ z = written-alike K (length rs) w (tableOf rs) b o o′ z (sym (records-written (length o)))
 
 -- ---- good rows are taken out
-taken-length : (K : Knowing) (k n : ℕ) (w : List ℕ) → length (takenFrom K k n w) ≡ n
+taken-length : (k n : ℕ) (w : List ℕ) → length (takenFrom k n w) ≡ n
 unfolding takenFrom
-taken-length K k zero w = refl
-taken-length K k (suc n) w = ap suc (taken-length K (suc k) n w)
+taken-length k zero w = refl
+taken-length k (suc n) w = ap suc (taken-length (suc k) n w)
 
-taken-at : (K : Knowing) (k n : ℕ) (w : List ℕ) (j : ℕ) → j < n → getD (takenFrom K k n w) j none ≡ takenAt K w (k + j)
+taken-at : (k n : ℕ) (w : List ℕ) (j : ℕ) → j < n → getD (takenFrom k n w) j none ≡ taken (rowAt w (k + j))
 unfolding takenFrom
-taken-at K k zero w j l = absurd (omega (arith, l))
-taken-at K k (suc n) w zero l = let e : k ≡ k + 0 = omega arith in ap (takenAt K w) e
-taken-at K k (suc n) w (suc j) l = let e : suc k + j ≡ k + suc j = omega arith in taken-at K (suc k) n w j (omega (arith, l)) ∙ ap (takenAt K w) e
+taken-at k zero w j l = absurd (omega (arith, l))
+taken-at k (suc n) w zero l = let e : k ≡ k + 0 = omega arith in ap (λ i. taken (rowAt w i)) e
+taken-at k (suc n) w (suc j) l =
+    let e : suc k + j ≡ k + suc j = omega arith in
+    taken-at (suc k) n w j (omega (arith, l)) ∙ ap (λ i. taken (rowAt w i)) e
 
 good-at : (K : Knowing) (b : List ℕ) (k n : ℕ) (w : List ℕ) → Each (GoodRow K b) (rowsIn k n w) → (j : ℕ) → j < n → GoodRow K b (rowAt w (k + j))
 unfolding rowsIn
@@ -332,13 +332,13 @@ good-at K b k (suc n) w g (suc j) l = let e : suc k + j ≡ k + suc j = omega ar
     (good-at K b (suc k) n w (g .1) j (omega (arith, l)))
 
 pub good-taken-out : (K : TagSet) (b : List ℕ) (n : ℕ) (w : List ℕ) → good K ≡ true → countGood n (length w) ≡ true → Each (GoodRow (holds K) b) (rowsIn 0 n w)
-    → TakenOut K (length b) w (takenFrom (holds K) 0 n w)
+    → TakenOut K (length b) w (takenFrom 0 n w)
 unfolding rowTakenAt
 good-taken-out K b n w s c g = record {
   row = λ k l.
-      let all = taken-length (holds K) 0 n w in
+      let all = taken-length 0 n w in
       let below : k < n = rw all at l in
       let fine : GoodRow (holds K) b (rowAt w k) = subst (λ i. GoodRow (holds K) b (rowAt w i)) (zero-add k) (good-at (holds K) b 0 n w g k below) in
-      let same : getD (takenFrom (holds K) 0 n w) k none ≡ takenAt (holds K) w k = taken-at (holds K) 0 n w k below ∙ ap (takenAt (holds K) w) (zero-add k) in
+      let same : getD (takenFrom 0 n w) k none ≡ taken (rowAt w k) = taken-at 0 n w k below ∙ ap (λ i. taken (rowAt w i)) (zero-add k) in
       rw (all, s, c, lt-ltb k n below, fine, same);
 }

@@ -1,6 +1,6 @@
 -- Document 01, Rows: "The writer, besides words, takes its rows as a lent list of records." The word image of a record.
 use Prim.Native.Nat.{ℕ, zero, suc, _+_, _*_, _^_}
-use mathlib.Core.Bool.{cond, _&&_}
+use mathlib.Core.Bool.{Bool, cond, _&&_}
 use mathlib.Core.List.{List, [], _∷_}
 use lib.Dec.{ltb}
 use lib.ListN.{length, getD, replicate}
@@ -8,7 +8,7 @@ use lib.Seq.{sets}
 use Rattle.catalogue.specs.Shapes.{shapeOf}
 use Rattle.catalogue.specs.declared.Shape.{Shape}
 use Rattle.catalogue.specs.declared.Shape.the-variants.{Text, Number, Absent}
-use Rattle.rows.specs.Kinds.{Row, markCode}
+use Rattle.rows.specs.Meaning.{Meaning, reading, mark, text, carried, Row, markCode, kindOf, codeOf}
 use Rattle.rows.specs.declared.Part.{Part}
 use Rattle.rows.specs.declared.Content.{Content}
 use Rattle.rows.specs.declared.Content.the-variants as content
@@ -23,22 +23,40 @@ widthBy Absent = 0
 abbrev pub widthOf : ℕ → ℕ
 widthOf t = widthBy (shapeOf t)
 
--- text or carried bytes; where a word cannot hold place and length, kind 0, which is bad for every receiver
-abbrev pub partImage : ℕ → ℕ → Part → Row
-partImage tag kind part =
-    cond (ltb (part .place) (2 ^ 48) && ltb (part .length) 65536)
-    (record { tag = tag; kind = kind; code = 0; spot = part .place * 65536 + part .length })
-    (record { tag = tag; kind = 0; code = 0; spot = 0 })
+-- what a record's content says of its item: a number has the catalogue's length, a mark the code with only the top bit
+abbrev pub saysFor : ℕ → Content → Meaning Part
+saysFor tag (content.Reading code) = reading code (widthOf tag)
+saysFor tag content.Mark = mark (markCode (widthOf tag)) (widthOf tag)
+saysFor tag (content.Text part) = text part
+saysFor tag (content.Carried part) = carried part
 
--- a number has the catalogue's length and place 0; a mark the code with only the top bit
-abbrev pub contentImage : ℕ → Content → Row
-contentImage tag (content.Reading code) = record { tag = tag; kind = 1; code = code; spot = widthOf tag }
-contentImage tag content.Mark = record { tag = tag; kind = 2; code = markCode (widthOf tag); spot = widthOf tag }
-contentImage tag (content.Text part) = partImage tag 3 part
-contentImage tag (content.Carried part) = partImage tag 4 part
+-- where its bytes stand: a number's at place 0
+abbrev pub partIn : Meaning Part → Part
+partIn (reading code size) = record { place = 0; length = size }
+partIn (mark code size) = record { place = 0; length = size }
+partIn (text part) = part
+partIn (carried part) = part
+
+-- whether a word can hold place and length
+abbrev pub holdable : Part → Bool
+holdable part = ltb (part .place) (2 ^ 48) && ltb (part .length) 65536
+
+-- bad for every receiver
+abbrev pub noKind : ℕ
+noKind = 0
+
+abbrev pub rowWith : ℕ → ℕ → ℕ → Part → Row
+rowWith tag kind code part =
+    cond (holdable part)
+    (record { tag = tag; kind = kind; code = code; spot = part .place * 65536 + part .length })
+    (record { tag = tag; kind = noKind; code = 0; spot = 0 })
+
+-- the row of what an item says
+abbrev pub rowSaying : ℕ → Meaning Part → Row
+rowSaying tag m = rowWith tag (kindOf m) (codeOf m) (partIn m)
 
 unfoldable pub imageOf : Record → Row
-imageOf r = contentImage (r .tag) (r .content)
+imageOf r = rowSaying (r .tag) (saysFor (r .tag) (r .content))
 
 -- what stands past the end of a list of records
 abbrev pub none : Record

@@ -4,8 +4,8 @@ ghost use mathlib.Core.Path.{_≡_};
 ghost use Prim.Native.Nat.{_<_, _≤_};
 ghost use lib.ListN.{length, getD, replicate};
 ghost use Rattle.writer.specs.Writes.{Writes};
-ghost use Rattle.rows.specs.Kinds.{markCode};
-ghost use Rattle.records.specs.Images.{widthOf, partImage, imageOf, none, putImage, imagesInto, fitting, tableOf};
+ghost use Rattle.rows.specs.Meaning.{markCode};
+ghost use Rattle.records.specs.Images.{widthOf, rowWith, imageOf, none, putImage, imagesInto, fitting, tableOf};
 use catalogue::Found;
 use rows::Content;
 use rows::Part;
@@ -64,9 +64,11 @@ fn mark_code(width: usize) -> u64
     1 << (8 * width - 1)
 }
 
-// Text or carried bytes; a part that a word cannot hold becomes kind 0, which the writer refuses.
-fn part_image(tag: u64, kind: u64, part: Part) -> RowWords
-    ensures { λ r. ⌜ r ≡ partImage tag kind part ⌝ }
+// A part that a word cannot hold has no kind, which the writer refuses.
+const NO_KIND: u64 = 0;
+
+fn row_with(tag: u64, kind: u64, code: u64, part: Part) -> RowWords
+    ensures { λ r. ⌜ r ≡ rowWith tag kind code part ⌝ }
 {
     let place = part.place;
     let length = part.length;
@@ -75,14 +77,14 @@ fn part_image(tag: u64, kind: u64, part: Part) -> RowWords
             return RowWords {
                 tag,
                 kind,
-                code: 0,
+                code,
                 spot: place as u64 * 65536 + length as u64,
             };
         }
     }
     RowWords {
         tag,
-        kind: 0,
+        kind: NO_KIND,
         code: 0,
         spot: 0,
     }
@@ -93,25 +95,17 @@ fn image_of(row: Row) -> RowWords
     ensures { λ r. ⌜ r ≡ imageOf row ⌝ }
 {
     let tag = row.tag;
+    let width = width_of(tag);
+    let number = Part {
+        place: 0,
+        length: width,
+    };
     let content = row.content;
     match content {
-        Content::Reading(code) => RowWords {
-            tag,
-            kind: 1,
-            code,
-            spot: width_of(tag) as u64,
-        },
-        Content::Mark => {
-            let width = width_of(tag);
-            RowWords {
-                tag,
-                kind: 2,
-                code: mark_code(width),
-                spot: width as u64,
-            }
-        }
-        Content::Text(part) => part_image(tag, 3, part),
-        Content::Carried(part) => part_image(tag, 4, part),
+        Content::Reading(code) => row_with(tag, rows::READING, code, number),
+        Content::Mark => row_with(tag, rows::MARK, mark_code(width), number),
+        Content::Text(part) => row_with(tag, rows::TEXT, 0, part),
+        Content::Carried(part) => row_with(tag, rows::CARRIED, 0, part),
     }
 }
 
