@@ -15,7 +15,7 @@ use Rattle.number.specs.Stored.{Bytes}
 use Rattle.tagset.specs.Sets.{holds}
 use Rattle.tagset.specs.declared.TagSet.{TagSet}
 use Rattle.packet.specs.Encode.{canonical}
-use Rattle.packet.specs.Rows.{Filled, readAnswer, readTable}
+use Rattle.packet.specs.Rows.{Filled, lentVerdict, readAnswer, readTable}
 use Rattle.laws.proofs.Forward.{forward-shorter}
 use Rattle.laws.proofs.Sent.{sent-canonical}
 use Rattle.laws.proofs.Tables.{has-read}
@@ -41,6 +41,11 @@ pub read-written : (K : TagSet) (p t : List ℕ) (done : Filled) → Bytes p →
     → (writeAnswer K (done .count) (readTable K p t) p o ≡ given (whole p))
     × (writeOutput K (done .count) (readTable K p t) p o ≡ canonical p ++ drop (length (canonical p)) o)
 read-written K p t done by e o room = rw (enough K p t o done by e room) at (write-sends K p t done by e o)
+
+-- who has read a packet into some table reads it into the relay's own
+pub own-read : (K : TagSet) (p t : List ℕ) (done : Filled) → readAnswer K p t ≡ given done → readAnswer K p ownTable ≡ given done
+unfolding readAnswer lentVerdict
+own-read K p t done e = let r = has-read K p t done e in rw (r .right, r .accepted) (ap given (r .filled))
 
 -- demand 2 and 3 for the relay, whose table is its own
 module _ (K : TagSet) (p o : List ℕ) (by : Bytes p) where
