@@ -1,5 +1,6 @@
 -- The three demands, in their order and words, over every outcome that the contracts of the public functions allow: `Reads` is read's,
--- `Writes` write's and also that of the records' writer, `Forwards` forward's, and `checkSaid r ≡ checked K p` is check's.
+-- `Writes` write's and also that of the records' writer, `Forwards` forward's, and `checkSaid r ≡ checked K p` is check's. What a lent slice of
+-- bytes holds is `Bytes`.
 -- Assumes nothing.
 use Prim.Native.Nat.{ℕ, _<_, _≤_}
 use mathlib.Core.Path.{_≡_, ap, sym, _∙_}
@@ -51,7 +52,7 @@ use Rattle.relay.specs.declared.Forwarding.the-variants as forward
 use Rattle.ground.specs.Ground.{fromRows}
 use Rattle.promises.specs.Words.{AllowedTo, Starts, CheckedAs, ReadAs}
 use Rattle.promises.proofs.Unchanged.{table-stays, output-stays, forward-stays}
-use Rattle.promises.proofs.NotTwo.{never-two, checked-not, rows-not, read-not, write-not, forward-not}
+use Rattle.promises.proofs.NotTwo.{never-two, checked-not, rows-not, read-not, write-not, forward-not, house-not, code-not}
 use Rattle.promises.proofs.Naming.{refusal-names, verdict-refused}
 use Rattle.promises.proofs.Writing.{written-read}
 use Rattle.promises.proofs.Sending.{whole, own-read, forward-sends, forward-reading}
@@ -90,6 +91,14 @@ module _ (K : TagSet) (p : List ℕ) (x : Refusal) where
   -- heights and corners
   pub ground-never-2 : {A : Type 0} (f : List Row → A) → refusal x ≡ fromRows f K p → number (x .reason) ≡ 2 → ⊥
   ground-never-2 f e = never-two (rows-not K p f) e
+
+-- and conversions
+module _ (tag : ℕ) (x : Refusal) where
+  pub to-house-never-2 : (stored : ℕ) → houseSaid (house.Refused x) ≡ toHouse tag stored → number (x .reason) ≡ 2 → ⊥
+  to-house-never-2 stored e = never-two (house-not tag stored) e
+
+  pub to-code-never-2 : (v : ℤ) → codeSaid (code.Refused x) ≡ toCode tag v → number (x .reason) ≡ 2 → ⊥
+  to-code-never-2 v e = never-two (code-not tag v) e
 
 -- Demand 2: "A packet is accepted exactly when document 01 allows it."
 module _ {K : TagSet} {p : List ℕ} where
@@ -154,12 +163,12 @@ module _ {K K′ : TagSet} (g : good K ≡ true) (g′ : good K′ ≡ true) (wi
   pub only-fuller-refuses-names : (done : Filled) (n a u : ℕ) → Bytes p → readSaid r ≡ given done → readSaid r′ ≡ refused n a u
       → (packet : AllowedTo K p) × Starts (packet .items) a u × Only (holds K) (holds K′) u
   only-fuller-refuses-names done n a u by e f =
-      let e1 : readAnswer K p t ≡ given done = sym (c .answer) ∙ e in
-      let f1 : readAnswer K′ p t′ ≡ refused n a u = sym (c′ .answer) ∙ f in
-      let h = has-read K p t done e1 in (
+      let took : readAnswer K p t ≡ given done = sym (c .answer) ∙ e in
+      let refuses : readAnswer K′ p t′ ≡ refused n a u = sym (c′ .answer) ∙ f in
+      let h = has-read K p t done took in (
         record { knows = g; items = h .items; allowed = accepted-allowed (holds K) p (h .items) by (h .accepted) },
-        refusal-names (holds K) (holds K′) p (h .items) n a u (h .accepted) (verdict-refused K′ p t′ g′ long′ n a u f1),
-        read-only K K′ g g′ within p t t′ long long′ done n a u e1 f1,
+        refusal-names (holds K) (holds K′) p (h .items) n a u (h .accepted) (verdict-refused K′ p t′ g′ long′ n a u refuses),
+        read-only K K′ g g′ within p t t′ long long′ done n a u took refuses,
       )
 
 -- "A packet sent on by the poorer one, given output room as long as the packet": what is accepted is sent

@@ -7,16 +7,21 @@ use mathlib.Core.Bool.{Bool, true, false, cond, _&&_}
 use mathlib.Core.List.{List, [], _∷_}
 use lib.ListN.{length, take, drop}
 use lib.Dec.{ltb, eqb}
+use lib.IntN.{ℤ}
 use borrow.Author.Tests.{eqb-false, le-ltb}
 use Rattle.base.specs.Cases.{never}
 use Rattle.refusal.specs.Answer.{Answer, given, refused, map, then}
 use Rattle.number.specs.Stored.{valueOf}
 use Rattle.ber.specs.Read.{Read, got, broken, readLength}
 use Rattle.checksum.specs.Sum.{checksumOf}
-use Rattle.catalogue.specs.Shapes.{shapeOf, shapeAllows, codeAllowed}
-use Rattle.knowing.specs.Good.{good}
 use Rattle.tagset.specs.Sets.{holds}
 use Rattle.tagset.specs.declared.TagSet.{TagSet}
+use Rattle.catalogue.specs.Shapes.{shapeOf, shapeAllows, codeAllowed}
+use Rattle.catalogue.specs.declared.Item as catalogue
+use Rattle.catalogue.specs.declared.Found.{Found}
+use Rattle.catalogue.specs.declared.Found.the-variants.{Known, Absent}
+use Rattle.knowing.specs.Good.{good}
+use Rattle.scale.specs.Conversions.{scaledItem, converted, toHouse, toCode}
 use Rattle.rows.specs.Meaning.{Row, shapeFor}
 use Rattle.rows.specs.Taken.{rowGood, countGood}
 use Rattle.packet.specs.Pieces.{Piece, Item, pieces, Step, noTag, noLength, one, readItem, itemAt, onward, walk}
@@ -169,3 +174,17 @@ module _ (K : TagSet) (count : ℕ) (words b o : List ℕ) where
 pub forward-not : (K : TagSet) (p o : List ℕ) → NotTwo (forwardAnswer K p o)
 unfolding forwardAnswer
 forward-not K p o = by-then (read-not K p ownTable (omega arith)) (λ done. write-not K (done .count) _ p o)
+
+-- 19 and 20 or 21
+converted-not : {A : Type 0} (n tag : ℕ) (test : catalogue.Item → Bool) (give : catalogue.Item → A) (f : Found) → eqb n 2 ≡ false
+    → NotTwo (converted n tag test give f)
+converted-not n tag test give (Known i) h = by-test (test i) gives (other h)
+converted-not n tag test give Absent h = other refl
+
+pub house-not : (tag code : ℕ) → NotTwo (toHouse tag code)
+unfolding toHouse
+house-not tag code = converted-not 20 tag _ _ (scaledItem tag) refl
+
+pub code-not : (tag : ℕ) (v : ℤ) → NotTwo (toCode tag v)
+unfolding toCode
+code-not tag v = converted-not 21 tag _ _ (scaledItem tag) refl
