@@ -95,14 +95,16 @@ module _ (K : TagSet) (count : ℕ) (words b o : List ℕ) (done : Written) wher
 
     pub written-read : (t : List ℕ) → 512 ≤ length t
         → (readAnswer K (take (done .size) (writeOutput K count words b o)) t ≡ given (record { count = count }))
-        × SameTable b (take (done .size) (writeOutput K count words b o)) (rowsIn 0 count words) (rowsIn 0 count (readTable K (take (done .size) (writeOutput K count words b o)) t))
+        × SameTable b (take (done .size) (writeOutput K count words b o)) (rowsIn 0 count words)
+        (rowsIn 0 count (readTable K (take (done .size) (writeOutput K count words b o)) t))
     unfolding readAnswer readTable lentVerdict
     written-read t long =
         let g = wrote .rows in
         let one : holds K 1 ≡ true = knows-one in
         let w = written-table (holds K) b (rowsIn 0 count words) one (g .rows) (can-send K count words b g) (g .pieces .faultless) in
         let k : length (w .0) ≡ count = sym (items-count (holds K) (w .0)) ∙ (sym (same-count (w .2)) ∙ rows-count 0 count words) in
-        rw (bytes-written, g .knows, le-ltb (length t) 512 long, w .1, rows-in-table (holds K) (w .0) t count k) (ap (λ n. given (record { count = n })) k, w .2)
+        rw (bytes-written, g .knows, le-ltb (length t) 512 long, w .1, rows-in-table (holds K) (w .0) t count k)
+        (ap (λ n. given (record { count = n })) k, w .2)
       where
         knows-one : holds K 1 ≡ true
         knows-one = unfold good in both-left (holds K 1) _ (wrote .rows .knows)

@@ -1,1 +1,2 @@
-// Demands 2 and 3 over what the writer and the relay promise. No code: the theorems are in proofs/.
+// The three demands over what the contracts of the public functions allow. No code: the words are in specs/, the theorems in
+// proofs/Demands.antt, and under them the other files of proofs/.

@@ -1,0 +1,189 @@
+-- The three demands, in their order and words, over every outcome that the contracts of the public functions allow: `Reads` is read's,
+-- `Writes` write's and also that of the records' writer, `Forwards` forward's, and `checkSaid r ≡ checked K p` is check's. What a lent slice of
+-- bytes holds is `Bytes`.
+-- Assumes nothing.
+use Prim.Native.Nat.{ℕ, _<_, _≤_}
+use mathlib.Core.Path.{_≡_, ap, sym, _∙_}
+use mathlib.Core.Bool.{true}
+use mathlib.Core.List.{List}
+use lib.ListN.{length, take}
+use lib.IntN.{ℤ}
+use Rattle.refusal.specs.Answer.{given, refused, refusal, map}
+use Rattle.refusal.specs.Numbers.{number}
+use Rattle.refusal.specs.declared.Refusal.{Refusal}
+use Rattle.refusal.proofs.Answers.{map-given}
+use Rattle.number.specs.Stored.{Bytes}
+use Rattle.tagset.specs.Sets.{holds}
+use Rattle.tagset.specs.declared.TagSet.{TagSet}
+use Rattle.tagset.proofs.Laws.{Included}
+use Rattle.catalogue.specs.Items.{itemOf}
+use Rattle.catalogue.specs.declared.Item as catalogue
+use Rattle.catalogue.specs.declared.Found.the-variants.{Known}
+use Rattle.knowing.specs.Good.{good}
+use Rattle.scale.specs.Conversions.{toHouse, toCode}
+use Rattle.scale.specs.Said.{houseSaid, codeSaid}
+use Rattle.scale.specs.declared.House.{House}
+use Rattle.scale.specs.declared.ToHouse.the-variants as house
+use Rattle.scale.specs.declared.Code.{Code}
+use Rattle.scale.specs.declared.ToCode.the-variants as code
+use Rattle.scale.proofs.Values.{NearestValue, house-nearest}
+use Rattle.scale.proofs.Codes.{NearestCode, code-nearest}
+use Rattle.rows.specs.Meaning.{Row}
+use Rattle.rows.specs.Taken.{rowAt}
+use Rattle.packet.specs.Verdict.{bodyOf, received, checked}
+use Rattle.packet.specs.Said.{checkSaid}
+use Rattle.packet.specs.Rows.{Filled, filledBy, tableOf, rowsIn, readAnswer, SameTable}
+use Rattle.packet.specs.declared.Accepted.{Accepted}
+use Rattle.packet.specs.declared.Checked.{Checked}
+use Rattle.packet.specs.declared.Checked.the-variants as check
+use Rattle.laws.proofs.Accepted.{received-allowed, allowed-received, accepted-allowed}
+use Rattle.laws.proofs.Receivers.{Only}
+use Rattle.laws.proofs.Tables.{has-read, allowed-read, SmallerRow, read-larger, read-rows, read-only}
+use Rattle.laws.proofs.Readings.{SameReading}
+use Rattle.reader.specs.Reads.{Reads, readSaid}
+use Rattle.reader.specs.declared.Reading.{Reading}
+use Rattle.reader.specs.declared.Reading.the-variants as read
+use Rattle.writer.specs.Writes.{Writes}
+use Rattle.writer.specs.declared.Written.{Written}
+use Rattle.writer.specs.declared.Writing.the-variants as write
+use Rattle.relay.specs.Forwards.{Forwards, forwardSaid}
+use Rattle.relay.specs.declared.Forwarding.{Forwarding}
+use Rattle.relay.specs.declared.Forwarding.the-variants as forward
+use Rattle.ground.specs.Ground.{fromRows}
+use Rattle.promises.specs.Words.{AllowedTo, Starts, CheckedAs, ReadAs}
+use Rattle.promises.proofs.Unchanged.{table-stays, output-stays, forward-stays}
+use Rattle.promises.proofs.NotTwo.{never-two, checked-not, rows-not, read-not, write-not, forward-not, house-not, code-not}
+use Rattle.promises.proofs.Naming.{refusal-names, verdict-refused}
+use Rattle.promises.proofs.Writing.{written-read}
+use Rattle.promises.proofs.Sending.{whole, own-read, forward-sends, forward-reading}
+
+-- Demand 1: "Every byte string and every table gets an answer. Bad input is refused by number, place and tag; the caller has to test
+-- nothing first (no public function has a requires)"
+-- A function proved without a requires comes to an end with an answer for every input, and its contract says which.
+
+-- "a refusal changes nothing in the memory lent."
+module _ {K : TagSet} {x : Refusal} where
+  pub read-refusal-changes-nothing : {p t t′ : List ℕ} → Reads K p t (read.Refused x) t′ → t′ ≡ t
+  read-refusal-changes-nothing {p} {t} c = c .table ∙ table-stays _ _ _ K p t (sym (c .answer))
+
+  pub write-refusal-changes-nothing : {count : ℕ} {words b o o′ : List ℕ} → Writes K count words b o (write.Refused x) o′ → o′ ≡ o
+  write-refusal-changes-nothing {count} {words} {b} {o} c = c .output ∙ output-stays _ _ _ K count words b o (sym (c .answer))
+
+  pub forward-refusal-changes-nothing : {p o o′ : List ℕ} → Forwards K p o (forward.Refused x) o′ → o′ ≡ o
+  forward-refusal-changes-nothing {p} {o} c = c .output ∙ forward-stays _ _ _ K p o (sym (c .answer))
+
+-- "Bad input is refused by number": 2, "table too short", is no answer of a function that is lent no table to fill, nor of read where it
+-- is lent at least 512 words. What the listing prints of a refused packet is check's refusal.
+module _ {K : TagSet} {x : Refusal} where
+  pub read-with-room-never-2 : {p t t′ : List ℕ} → 512 ≤ length t → Reads K p t (read.Refused x) t′ → number (x .reason) ≡ 2 → ⊥
+  read-with-room-never-2 {p} {t} long c = never-two (read-not K p t long) (c .answer)
+
+  pub write-never-2 : {count : ℕ} {words b o o′ : List ℕ} → Writes K count words b o (write.Refused x) o′ → number (x .reason) ≡ 2 → ⊥
+  write-never-2 {count} {words} {b} {o} c = never-two (write-not K count words b o) (c .answer)
+
+  pub forward-never-2 : {p o o′ : List ℕ} → Forwards K p o (forward.Refused x) o′ → number (x .reason) ≡ 2 → ⊥
+  forward-never-2 {p} {o} c = never-two (forward-not K p o) (c .answer)
+
+module _ (K : TagSet) (p : List ℕ) (x : Refusal) where
+  pub check-never-2 : checkSaid (check.Refused x) ≡ checked K p → number (x .reason) ≡ 2 → ⊥
+  check-never-2 e = never-two (checked-not K p) e
+
+  -- heights and corners
+  pub ground-never-2 : {A : Type 0} (f : List Row → A) → refusal x ≡ fromRows f K p → number (x .reason) ≡ 2 → ⊥
+  ground-never-2 f e = never-two (rows-not K p f) e
+
+-- and conversions
+module _ (tag : ℕ) (x : Refusal) where
+  pub to-house-never-2 : (stored : ℕ) → houseSaid (house.Refused x) ≡ toHouse tag stored → number (x .reason) ≡ 2 → ⊥
+  to-house-never-2 stored e = never-two (house-not tag stored) e
+
+  pub to-code-never-2 : (v : ℤ) → codeSaid (code.Refused x) ≡ toCode tag v → number (x .reason) ≡ 2 → ⊥
+  to-code-never-2 v e = never-two (code-not tag v) e
+
+-- Demand 2: "A packet is accepted exactly when document 01 allows it."
+module _ {K : TagSet} {p : List ℕ} where
+  pub check-accepts-only-allowed : (b : Accepted) → Bytes p → checkSaid (check.Accepted b) ≡ checked K p → CheckedAs K p b
+  unfolding checked
+  check-accepts-only-allowed b by e =
+      let f = map-given bodyOf (received K p) (sym e) in
+      let a = received-allowed K p (f .0) by (f .1) in
+      record { packet = record { knows = a .0; items = f .0; allowed = a .1 }; body = sym (f .2) }
+
+  pub check-accepts-all-allowed : (r : Checked) → checkSaid r ≡ checked K p → (a : AllowedTo K p) → checkSaid r ≡ given (bodyOf (a .items))
+  unfolding checked
+  check-accepts-all-allowed r e a = e ∙ ap (map bodyOf) (allowed-received K p (a .items) (a .knows) (a .allowed))
+
+  module _ {t t′ : List ℕ} where
+    pub read-accepts-only-allowed : {done : Filled} → Bytes p → Reads K p t (read.Rows done) t′ → ReadAs K p t done t′
+    read-accepts-only-allowed {done} by c =
+        let r = has-read K p t done (sym (c .answer)) in
+        record {
+          packet = record { knows = r .right; items = r .items; allowed = accepted-allowed (holds K) p (r .items) by (r .accepted) };
+          long = r .long;
+          count = sym (r .filled);
+          table = c .table ∙ r .table;
+        }
+
+    pub read-accepts-all-allowed : {r : Reading} → Reads K p t r t′ → 512 ≤ length t → (a : AllowedTo K p)
+        → (readSaid r ≡ given (filledBy (a .items))) × (t′ ≡ tableOf (holds K) (a .items) t)
+    read-accepts-all-allowed c long a =
+        let f = allowed-read K p t (a .knows) long (a .items) (a .allowed) in
+        (c .answer ∙ f .0, c .table ∙ f .1)
+
+-- "Each reading is the exact value to the nearest house unit; a value to be sent gets the nearest code."
+module _ (tag : ℕ) (i : catalogue.Item) (found : itemOf tag ≡ Known i) where
+  pub reading-nearest : (stored : ℕ) (h : House) → houseSaid (house.Is h) ≡ toHouse tag stored → NearestValue i stored (h .value)
+  reading-nearest stored h e = house-nearest tag stored i h found (sym e)
+
+  pub sent-code-nearest : (v : ℤ) (c : Code) → codeSaid (code.Is c) ≡ toCode tag v → NearestCode i v (c .code)
+  sent-code-nearest v c e = code-nearest tag v i c found (sym e)
+
+-- "The packet written from a table reads back as that table, places and checksum aside."
+pub written-reads-back : {K : TagSet} {count : ℕ} {words b o o′ : List ℕ} {w : Written} → Writes K count words b o (write.Packet w) o′
+    → {t t′ : List ℕ} {r : Reading} → 512 ≤ length t → Reads K (take (w .size) o′) t r t′
+    → (readSaid r ≡ given (record { count = count })) × SameTable b (take (w .size) o′) (rowsIn 0 count words) (rowsIn 0 count t′)
+written-reads-back {K} {count} {words} {b} {o} {o′} {w} c {t} long d =
+    let s = written-read K count words b o w (sym (c .answer)) t long in
+    let q = rw (← (c .output)) at s in
+    (d .answer ∙ q .0, rw (d .table) (q .1))
+
+-- Demand 3: "Of two receivers, one knowing all that the other knows and perhaps more": K is the poorer, K′ the fuller
+module _ {K K′ : TagSet} (g : good K ≡ true) (g′ : good K′ ≡ true) (within : Included K K′)
+    {p t t′ s s′ : List ℕ} {r r′ : Reading} (long : 512 ≤ length t) (long′ : 512 ≤ length t′) (c : Reads K p t r s) (c′ : Reads K′ p t′ r′ s′) where
+  -- "what the fuller accepts, the poorer accepts, with the same answer for every item it knows."
+  pub fuller-accepts-poorer-accepts : (done : Filled) → readSaid r′ ≡ given done
+      → (readSaid r ≡ given done) × ((k : ℕ) → k < done .count → SmallerRow (holds K) (rowAt s k) (rowAt s′ k))
+  fuller-accepts-poorer-accepts done e =
+      let f : readAnswer K′ p t′ ≡ given done = sym (c′ .answer) ∙ e in (
+        c .answer ∙ read-larger K K′ g g′ within p t t′ long long′ done f,
+        λ k h. rw (c .table, c′ .table) (read-rows K K′ g g′ within p t t′ long long′ done k f h),
+      )
+
+  -- "If only the fuller refuses, it names an item the other does not know.": an item of the packet, by its start and its tag
+  pub only-fuller-refuses-names : (done : Filled) (n a u : ℕ) → Bytes p → readSaid r ≡ given done → readSaid r′ ≡ refused n a u
+      → (packet : AllowedTo K p) × Starts (packet .items) a u × Only (holds K) (holds K′) u
+  only-fuller-refuses-names done n a u by e f =
+      let took : readAnswer K p t ≡ given done = sym (c .answer) ∙ e in
+      let refuses : readAnswer K′ p t′ ≡ refused n a u = sym (c′ .answer) ∙ f in
+      let h = has-read K p t done took in (
+        record { knows = g; items = h .items; allowed = accepted-allowed (holds K) p (h .items) by (h .accepted) },
+        refusal-names (holds K) (holds K′) p (h .items) n a u (h .accepted) (verdict-refused K′ p t′ g′ long′ n a u refuses),
+        read-only K K′ g g′ within p t t′ long long′ done n a u took refuses,
+      )
+
+-- "A packet sent on by the poorer one, given output room as long as the packet": what is accepted is sent
+module _ {K : TagSet} {p o o′ : List ℕ} (by : Bytes p) where
+  pub accepted-is-sent-on : {t t′ : List ℕ} {done : Filled} {r : Forwarding} → Reads K p t (read.Rows done) t′ → Forwards K p o r o′ → length p ≤ length o
+      → (sent : Written) × (forwardSaid r ≡ given sent)
+  accepted-is-sent-on {t} {done = done} c f room =
+      (whole p, f .answer ∙ forward-sends K p o by done (own-read K p t done (sym (c .answer))) room .0)
+
+  -- "gets from the fuller the table, or the refusal number and tag, that the original gets, places and checksum aside.": from every
+  -- receiver, and whatever room there was
+  pub sent-on-reads-same : {sent : Written} → Forwards K p o (forward.Packet sent) o′
+      → {K′ : TagSet} {t t′ s s′ : List ℕ} {r r′ : Reading} → 512 ≤ length t → 512 ≤ length s
+      → Reads K′ p t r t′ → Reads K′ (take (sent .size) o′) s r′ s′
+      → SameReading p (take (sent .size) o′) (readSaid r) t′ (readSaid r′) s′
+  sent-on-reads-same {sent} f {K′} {t} {t′} {s} {s′} long long′ c d =
+      rw (c .answer, c .table, d .answer, d .table, f .output)
+      (forward-reading K p o by sent (sym (f .answer)) K′ t s long long′)
