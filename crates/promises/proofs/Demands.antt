@@ -36,10 +36,9 @@ use Rattle.packet.specs.Rows.{Filled, filledBy, tableOf, rowsIn, readAnswer, Sa
 use Rattle.packet.specs.declared.Accepted.{Accepted}
 use Rattle.packet.specs.declared.Checked.{Checked}
 use Rattle.packet.specs.declared.Checked.the-variants as check
+use Rattle.laws.specs.Receivers.{Below, Only, SmallerRow, SameReading}
 use Rattle.laws.proofs.Accepted.{received-allowed, allowed-received, accepted-allowed}
-use Rattle.laws.proofs.Receivers.{Only}
-use Rattle.laws.proofs.Tables.{has-read, allowed-read, SmallerRow, read-larger, read-rows, read-only}
-use Rattle.laws.proofs.Readings.{SameReading}
+use Rattle.laws.proofs.Tables.{has-read, allowed-read, read-larger, read-rows, read-only}
 use Rattle.reader.specs.Reads.{Reads, readSaid}
 use Rattle.reader.specs.declared.Reading.{Reading}
 use Rattle.reader.specs.declared.Reading.the-variants as read
@@ -59,7 +58,8 @@ use Rattle.promises.proofs.Sending.{whole, own-read, forward-sends, for
 
 -- Demand 1: "Every byte string and every table gets an answer. Bad input is refused by number, place and tag; the caller has to test
 -- nothing first (no public function has a requires)"
--- A function proved without a requires comes to an end with an answer for every input, and its contract says which.
+-- A function proved without a requires comes to an end with an answer for every input, and its contract allows one outcome alone: the
+-- theorems `…-determined` of each crate's proofs/Outcomes.antt.
 
 -- "a refusal changes nothing in the memory lent."
 module _ {K : TagSet} {x : Refusal} where
@@ -148,8 +148,11 @@ written-reads-back {K} {count} {words} {b} {o} {o′} {w} c {t} long d =
     (d .answer ∙ q .0, rw (d .table) (q .1))
 
 -- Demand 3: "Of two receivers, one knowing all that the other knows and perhaps more": K is the poorer, K′ the fuller
-module _ {K K′ : TagSet} (g : good K ≡ true) (g′ : good K′ ≡ true) (within : Included K K′)
+module _ {K K′ : TagSet} (g : good K ≡ true) (g′ : good K′ ≡ true) (below : Below (holds K) (holds K′))
     {p t t′ s s′ : List ℕ} {r r′ : Reading} (long : 512 ≤ length t) (long′ : 512 ≤ length t′) (c : Reads K p t r s) (c′ : Reads K′ p t′ r′ s′) where
+  within : Included K K′
+  within = record { each = below }
+
   -- "what the fuller accepts, the poorer accepts, with the same answer for every item it knows."
   pub fuller-accepts-poorer-accepts : (done : Filled) → readSaid r′ ≡ given done
       → (readSaid r ≡ given done) × ((k : ℕ) → k < done .count → SmallerRow (holds K) (rowAt s k) (rowAt s′ k))
