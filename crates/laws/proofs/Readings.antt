@@ -1,8 +1,7 @@
 -- Who reads what was written or sent on reads the same table: the same count, tags, kinds, codes, lengths and value bytes, places and the
 -- checksum's code aside.
 -- Assumes nothing.
-use Prim.Native.Nat.{ℕ, _<_, _≤_}
-use native.Mathlib.Omega.{arith}
+use Prim.Native.Nat.{ℕ, _≤_}
 use mathlib.Core.Path.{_≡_, refl, ap, sym, _∙_}
 use mathlib.Core.Bool.{Bool, true, false, _&&_}
 use mathlib.Core.List.{List, [], _∷_}
@@ -13,8 +12,8 @@ use lib.Arith.{digits-mod}
 use Rattle.base.proofs.Cases.{byBool, never, clash}
 use Rattle.base.specs.Every.{Each}
 use Rattle.base.proofs.Every.{both-left}
-use Rattle.refusal.specs.Answer.{Answer, given, refused, map}
-use Rattle.number.specs.Stored.{Bytes, valueOf, bytesOf}
+use Rattle.refusal.specs.Answer.{given, map}
+use Rattle.number.specs.Stored.{Bytes, valueOf}
 use Rattle.catalogue.specs.Items.{groups, member, itemIn, itemOf}
 use Rattle.catalogue.specs.Shapes.{shapeOf}
 use Rattle.catalogue.specs.declared.Shape.{Shape}
@@ -30,9 +29,12 @@ use Rattle.packet.specs.Encode.{encode, canonical}
 use Rattle.rows.specs.Meaning.{shapeFor, meaningOf, kindOf, kindFor, codeOf, isNumber, saidBy, Row, markCode}
 use Rattle.rows.specs.Taken.{spotLength, rowSays, GoodRow}
 use Rattle.rows.proofs.Laws.{kind-seen}
-use Rattle.packet.specs.Rows.{rowOf, rowsOf, bytesAt, pieceOf, piecesOf, tableOf, lentVerdict, Filled, filledBy, readAnswer, tableBy, readTable, rowsIn, SameRow, SameTable, noRows, oneMore}
+use Rattle.packet.specs.Rows.{rowOf, rowsOf, bytesAt, pieceOf, piecesOf, tableOf, lentVerdict, Filled, filledBy, readAnswer, tableBy, readTable, rowsIn}
+use Rattle.packet.specs.Rows.{SameRow, SameTable, noRows, oneMore}
+use Rattle.laws.specs.Receivers.{SameReading, bothRefuse, bothRead}
 use Rattle.laws.proofs.Accepted.{accepts, accepting}
-use Rattle.laws.proofs.Written.{sumPiece, SameBut, atLast, further, but-length, judged-alike, length-pieces, Sendable, ReadBack, read-back, written-accepted}
+use Rattle.laws.proofs.Written.{sumPiece, SameBut, atLast, further, but-length, judged-alike, length-pieces}
+use Rattle.laws.proofs.Written.{Sendable, ReadBack, read-back, written-accepted}
 use Rattle.laws.proofs.Forward.{canonical-is, canonical-back}
 use Rattle.laws.proofs.Tables.{has-read, rows-in-table}
 use Rattle.laws.proofs.Rows.{Made, all-made, rows-good}
@@ -134,12 +136,6 @@ module _ (K : Knowing) (p : List ℕ) (is : List Item) (by : Bytes p) (k : K 1 �
         sent-table (a .found) (a .faultless),
       )
 
--- two readings up to places: the same refusal and tag, or the same count and the same table
-pub data SameReading (p q : List ℕ) : Answer Filled → List ℕ → Answer Filled → List ℕ → Type 0 where
-  bothRefuse : {n t a b : ℕ} {l m : List ℕ} → SameReading p q (refused n a t) l (refused n b t) m
-  bothRead : {done : Filled} {l m : List ℕ} → SameTable p q (rowsIn 0 (done .count) l) (rowsIn 0 (done .count) m)
-      → SameReading p q (given done) l (given done) m
-
 -- who has a good set knows the checksum
 knows-sum : (K : TagSet) → good K ≡ true → holds K 1 ≡ true
 unfolding good
@@ -155,8 +151,9 @@ module _ (K : TagSet) (p t t′ : List ℕ) (is : List Item) (by : Bytes p) (fou
   unfolding readAnswer readTable lentVerdict verdict sent
   same-reading =
       byBool (good K)
-      (λ g. rw (g, le-ltb (length t) 512 long, le-ltb (length t′) 512 long′, canonical-is p is by found, found, sent .read, ← (judged-alike (holds K) (sent .same)))
-      (go g (judge (holds K) (pieces is)) refl))
+      (λ g. rw (g, le-ltb (length t) 512 long, le-ltb (length t′) 512 long′, canonical-is p is by found, found, sent .read)
+      (rw (← (judged-alike (holds K) (sent .same)))
+      (go g (judge (holds K) (pieces is)) refl)))
       (λ g. rw g bothRefuse)
     where
       go : good K ≡ true → (j : Judged) → judge (holds K) (pieces is) ≡ j
@@ -164,8 +161,9 @@ module _ (K : TagSet) (p t t′ : List ℕ) (is : List Item) (by : Bytes p) (fou
           (map filledBy (placed (sent .items) j)) (tableBy (holds K) t′ (placed (sent .items) j))
       go g fine f =
           let count : length (sent .items) ≡ length is = sym (length-pieces (sent .items)) ∙ (sym (but-length (sent .same)) ∙ length-pieces is) in
-          let rows : SameTable p (encode (pieces is)) (rowsIn 0 (length is) (tableOf (holds K) is t)) (rowsIn 0 (length is) (tableOf (holds K) (sent .items) t′)) =
-          rw (rows-in-table (holds K) is t _ refl, rows-in-table (holds K) (sent .items) t′ _ count)
+          let n : ℕ = length is in
+          let rows : SameTable p (encode (pieces is)) (rowsIn 0 n (tableOf (holds K) is t)) (rowsIn 0 n (tableOf (holds K) (sent .items) t′)) =
+          rw (rows-in-table (holds K) is t n refl, rows-in-table (holds K) (sent .items) t′ n count)
           (sent-table (holds K) p is by (knows-sum K g) found f) in
           rw count (bothRead rows)
       go g (faulty k n u) f = bothRefuse

@@ -18,15 +18,7 @@ use Rattle.packet.specs.Pieces.{Piece, Item, pieces}
 use Rattle.packet.specs.Structure.{structure}
 use Rattle.packet.specs.Judge.{Knowing, among, Fault, clean, wrong, faultOf, Judged, faulty, later, onFault, judgeFrom, judge}
 use Rattle.packet.specs.Verdict.{placed, judged, verdict, received}
-
--- K′ knows all that K knows
-abbrev pub Below : Knowing → Knowing → Type 0
-Below K K′ = (t : ℕ) → K t ≡ true → K′ t ≡ true
-
--- the tag that only K′ knows
-pub record Only (K K′ : Knowing) (t : ℕ) : Type 0 where
-  pub unknown : K t ≡ false
-  pub known : K′ t ≡ true
+use Rattle.laws.specs.Receivers.{Below, Only}
 
 data TwoJudged (K K′ : Knowing) : Judged → Judged → Type 0 where
   agreed : {j : Judged} → TwoJudged K K′ j j

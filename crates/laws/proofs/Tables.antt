@@ -21,18 +21,15 @@ use Rattle.packet.specs.Pieces.{Item}
 use Rattle.packet.specs.Judge.{Knowing}
 use Rattle.packet.specs.Verdict.{verdict, received}
 use Rattle.packet.specs.Allowed.{Allowed}
-use Rattle.rows.specs.Meaning.{shapeFor, Row, carriedKind}
+use Rattle.rows.specs.Meaning.{shapeFor}
 use Rattle.rows.specs.Taken.{rowAt}
 use Rattle.packet.specs.Rows.{rowOf, rowsOf, words, tableOf, lentVerdict, Filled, filledBy, readAnswer, tableBy, readTable, rowsIn}
+use Rattle.laws.specs.Receivers.{Below, Only, carried, SmallerRow}
 use Rattle.laws.proofs.Accepted.{accepted-allowed, allowed-accepted}
-use Rattle.laws.proofs.Receivers.{Below, Only, larger-accepts, larger-refuses}
+use Rattle.laws.proofs.Receivers.{larger-accepts, larger-refuses}
 
 abbrev itemIn : List Item → ℕ → Item
 itemIn is k = getD is k (record { start = 0; place = 0; piece = record { tag = 0; value = [] } })
-
--- the row of the same item, carried: code 0, the same place and length
-abbrev pub carried : Row → Row
-carried r = record { tag = r .tag; kind = carriedKind; code = 0; spot = r .spot }
 
 -- an item's two rows
 module _ (K K′ : Knowing) (i : Item) where
@@ -155,11 +152,6 @@ read-allowed K p t done by e =
     let r = has-read K p t done e in
     (r .items, r .filled, accepted-allowed (holds K) p (r .items) by (r .accepted))
 
--- the row that K gives, beside the row that K′ gives to the same item
-pub record SmallerRow (K : Knowing) (r r′ : Row) : Type 0 where
-  pub known : K (r′ .tag) ≡ true → r ≡ r′
-  pub unknown : K (r′ .tag) ≡ false → r ≡ carried r′
-
 -- two good sets, one included in the other, and two tables of at least 512 words
 module _ (K K′ : TagSet) (g : good K ≡ true) (g′ : good K′ ≡ true) (within : Included K K′)
     (p t t′ : List ℕ) (long : 512 ≤ length t) (long′ : 512 ≤ length t′) where
@@ -173,7 +165,8 @@ module _ (K K′ : TagSet) (g : good K ≡ true) (g′ : good K′ ≡ true) (wi
       answer-given K p t g long (r .items) (smaller done r) ∙ ap given (r .filled)
 
   -- the same row for every item whose tag the smaller knows, a carried one with the same place and length for every other
-  pub read-rows : (done : Filled) (k : ℕ) → readAnswer K′ p t′ ≡ given done → k < done .count → SmallerRow (holds K) (rowAt (readTable K p t) k) (rowAt (readTable K′ p t′) k)
+  pub read-rows : (done : Filled) (k : ℕ) → readAnswer K′ p t′ ≡ given done → k < done .count
+      → SmallerRow (holds K) (rowAt (readTable K p t) k) (rowAt (readTable K′ p t′) k)
   unfolding rowOf
   read-rows done k e h =
       let r = has-read K′ p t′ done e in

@@ -1,6 +1,6 @@
 -- The three demands, in their order and words, over every outcome that the contracts of the public functions allow: `Reads` is read's,
--- `Writes` write's and also that of the records' writer, `Forwards` forward's, and `checkSaid r ≡ checked K p` is check's. What a lent slice of
--- bytes holds is `Bytes`.
+-- `Writes` write's and also that of the records' writer, `Forwards` forward's, `Lists` list's, and `checkSaid r ≡ checked K p` is
+-- check's. What a lent slice of bytes holds is `Bytes`.
 -- Assumes nothing.
 use Prim.Native.Nat.{ℕ, _<_, _≤_}
 use mathlib.Core.Path.{_≡_, ap, sym, _∙_}
@@ -36,10 +36,9 @@ use Rattle.packet.specs.Rows.{Filled, filledBy, tableOf, rowsIn, readAnswer, Sa
 use Rattle.packet.specs.declared.Accepted.{Accepted}
 use Rattle.packet.specs.declared.Checked.{Checked}
 use Rattle.packet.specs.declared.Checked.the-variants as check
+use Rattle.laws.specs.Receivers.{Below, Only, SmallerRow, SameReading}
 use Rattle.laws.proofs.Accepted.{received-allowed, allowed-received, accepted-allowed}
-use Rattle.laws.proofs.Receivers.{Only}
-use Rattle.laws.proofs.Tables.{has-read, allowed-read, SmallerRow, read-larger, read-rows, read-only}
-use Rattle.laws.proofs.Readings.{SameReading}
+use Rattle.laws.proofs.Tables.{has-read, allowed-read, read-larger, read-rows, read-only}
 use Rattle.reader.specs.Reads.{Reads, readSaid}
 use Rattle.reader.specs.declared.Reading.{Reading}
 use Rattle.reader.specs.declared.Reading.the-variants as read
@@ -50,16 +49,19 @@ use Rattle.relay.specs.Forwards.{Forwards, forwardSaid}
 use Rattle.relay.specs.declared.Forwarding.{Forwarding}
 use Rattle.relay.specs.declared.Forwarding.the-variants as forward
 use Rattle.ground.specs.Ground.{fromRows}
+use Rattle.listing.specs.Lists.{Lists}
+use Rattle.listing.specs.declared.Listing.the-variants as listing
 use Rattle.promises.specs.Words.{AllowedTo, Starts, CheckedAs, ReadAs}
-use Rattle.promises.proofs.Unchanged.{table-stays, output-stays, forward-stays}
-use Rattle.promises.proofs.NotTwo.{never-two, checked-not, rows-not, read-not, write-not, forward-not, house-not, code-not}
+use Rattle.promises.proofs.Unchanged.{table-stays, output-stays, forward-stays, text-stays}
+use Rattle.promises.proofs.NotTwo.{never-two, checked-not, rows-not, read-not, write-not, forward-not, house-not, code-not, text-not}
 use Rattle.promises.proofs.Naming.{refusal-names, verdict-refused}
 use Rattle.promises.proofs.Writing.{written-read}
 use Rattle.promises.proofs.Sending.{whole, own-read, forward-sends, forward-reading}
 
 -- Demand 1: "Every byte string and every table gets an answer. Bad input is refused by number, place and tag; the caller has to test
 -- nothing first (no public function has a requires)"
--- A function proved without a requires comes to an end with an answer for every input, and its contract says which.
+-- A function proved without a requires comes to an end with an answer for every input, and its contract allows one outcome alone: the
+-- theorems `…-determined` of each crate's proofs/Outcomes.antt.
 
 -- "a refusal changes nothing in the memory lent."
 module _ {K : TagSet} {x : Refusal} where
@@ -72,8 +74,11 @@ module _ {K : TagSet} {x : Refusal} where
   pub forward-refusal-changes-nothing : {p o o′ : List ℕ} → Forwards K p o (forward.Refused x) o′ → o′ ≡ o
   forward-refusal-changes-nothing {p} {o} c = c .output ∙ forward-stays _ _ _ K p o (sym (c .answer))
 
+pub list-refusal-changes-nothing : {x : Refusal} {text o o′ : List ℕ} → Lists text o (listing.Refused x) o′ → o′ ≡ o
+list-refusal-changes-nothing {text = text} {o = o} c = c .output ∙ text-stays _ _ _ text o (sym (c .answer))
+
 -- "Bad input is refused by number": 2, "table too short", is no answer of a function that is lent no table to fill, nor of read where it
--- is lent at least 512 words. What the listing prints of a refused packet is check's refusal.
+-- is lent at least 512 words. What the listing prints of a refused packet is check's refusal; its own answer is a number of bytes or 18.
 module _ {K : TagSet} {x : Refusal} where
   pub read-with-room-never-2 : {p t t′ : List ℕ} → 512 ≤ length t → Reads K p t (read.Refused x) t′ → number (x .reason) ≡ 2 → ⊥
   read-with-room-never-2 {p} {t} long c = never-two (read-not K p t long) (c .answer)
@@ -83,6 +88,9 @@ module _ {K : TagSet} {x : Refusal} where
 
   pub forward-never-2 : {p o o′ : List ℕ} → Forwards K p o (forward.Refused x) o′ → number (x .reason) ≡ 2 → ⊥
   forward-never-2 {p} {o} c = never-two (forward-not K p o) (c .answer)
+
+pub list-never-2 : {x : Refusal} {text o o′ : List ℕ} → Lists text o (listing.Refused x) o′ → number (x .reason) ≡ 2 → ⊥
+list-never-2 {text = text} {o = o} c = never-two (text-not text o) (c .answer)
 
 module _ (K : TagSet) (p : List ℕ) (x : Refusal) where
   pub check-never-2 : checkSaid (check.Refused x) ≡ checked K p → number (x .reason) ≡ 2 → ⊥
@@ -148,8 +156,11 @@ written-reads-back {K} {count} {words} {b} {o} {o′} {w} c {t} long d =
     (d .answer ∙ q .0, rw (d .table) (q .1))
 
 -- Demand 3: "Of two receivers, one knowing all that the other knows and perhaps more": K is the poorer, K′ the fuller
-module _ {K K′ : TagSet} (g : good K ≡ true) (g′ : good K′ ≡ true) (within : Included K K′)
+module _ {K K′ : TagSet} (g : good K ≡ true) (g′ : good K′ ≡ true) (below : Below (holds K) (holds K′))
     {p t t′ s s′ : List ℕ} {r r′ : Reading} (long : 512 ≤ length t) (long′ : 512 ≤ length t′) (c : Reads K p t r s) (c′ : Reads K′ p t′ r′ s′) where
+  within : Included K K′
+  within = record { each = below }
+
   -- "what the fuller accepts, the poorer accepts, with the same answer for every item it knows."
   pub fuller-accepts-poorer-accepts : (done : Filled) → readSaid r′ ≡ given done
       → (readSaid r ≡ given done) × ((k : ℕ) → k < done .count → SmallerRow (holds K) (rowAt s k) (rowAt s′ k))

@@ -36,6 +36,7 @@ use Rattle.outgoing.specs.Outgoing.{rightRows, byRow, sendable, outgoing}
 use Rattle.writer.specs.Writes.{written, writeAnswer}
 use Rattle.relay.specs.Forwards.{ownTable, forwardAnswer}
 use Rattle.ground.specs.Ground.{fromRows}
+use Rattle.listing.specs.Lists.{textAnswer}
 
 -- an answer that is no refusal numbered 2
 pub data NotTwo {A : Type 0} : Answer A → Type 0 where
@@ -188,3 +189,8 @@ house-not tag code = converted-not 20 tag _ _ (scaledItem tag) refl
 pub code-not : (tag : ℕ) (v : ℤ) → NotTwo (toCode tag v)
 unfolding toCode
 code-not tag v = converted-not 21 tag _ _ (scaledItem tag) refl
+
+-- 18 alone
+pub text-not : (text o : List ℕ) → NotTwo (textAnswer text o)
+unfolding textAnswer
+text-not text o = by-test (ltb (length o) (length text)) (other refl) gives

@@ -16,10 +16,11 @@ use Rattle.tagset.specs.Sets.{holds}
 use Rattle.tagset.specs.declared.TagSet.{TagSet}
 use Rattle.packet.specs.Encode.{canonical}
 use Rattle.packet.specs.Rows.{Filled, lentVerdict, readAnswer, readTable}
+use Rattle.laws.specs.Receivers.{SameReading}
 use Rattle.laws.proofs.Forward.{forward-shorter}
 use Rattle.laws.proofs.Sent.{sent-canonical}
 use Rattle.laws.proofs.Tables.{has-read}
-use Rattle.laws.proofs.Readings.{SameReading, sent-reading}
+use Rattle.laws.proofs.Readings.{sent-reading}
 use Rattle.writer.specs.Writes.{writeAnswer, writeOutput}
 use Rattle.writer.specs.declared.Written.{Written}
 use Rattle.relay.specs.Forwards.{ownTable, forwardAnswer, forwardOutput}

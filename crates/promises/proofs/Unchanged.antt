@@ -1,16 +1,21 @@
 -- A refusal changes nothing in the memory lent.
 -- Assumes nothing.
-use Prim.Native.Nat.{ℕ}
-use mathlib.Core.Path.{_≡_, refl, ap}
+use Prim.Native.Nat.{ℕ, _+_}
+use native.Mathlib.Omega.{arith}
+use mathlib.Core.Path.{_≡_, refl, ap, sym}
 use mathlib.Core.List.{List}
 use lib.ListN.{length}
+use borrow.Author.Tests.{lt-leb, le-ltb}
+use Rattle.base.proofs.Cases.{byLt}
+use Rattle.base.specs.Putting.{putInto}
 use Rattle.refusal.specs.Answer.{Answer, given, refused, then, orElse}
-use Rattle.refusal.proofs.Answers.{map-refused}
+use Rattle.refusal.proofs.Answers.{not-given, map-refused}
 use Rattle.tagset.specs.Sets.{holds}
 use Rattle.tagset.specs.declared.TagSet.{TagSet}
 use Rattle.packet.specs.Rows.{Filled, filledBy, lentVerdict, readAnswer, tableBy, readTable}
 use Rattle.writer.specs.Writes.{written, writtenBy, outputBy, writeAnswer, writeOutput}
 use Rattle.relay.specs.Forwards.{ownTable, forwardAnswer, forwardOutput}
+use Rattle.listing.specs.Lists.{textAnswer}
 
 module _ (n a u : ℕ) (K : TagSet) where
   pub table-stays : (p t : List ℕ) → readAnswer K p t ≡ refused n a u → readTable K p t ≡ t
@@ -29,3 +34,10 @@ module _ (n a u : ℕ) (K : TagSet) where
           → orElse o (λ done. writeOutput K (done .count) (readTable K p ownTable) p o) r ≡ o
       go (given done) e = output-stays (done .count) (readTable K p ownTable) p o e
       go (refused m b v) e = refl
+
+pub text-stays : (n a u : ℕ) (text o : List ℕ) → textAnswer text o ≡ refused n a u → putInto o 0 text ≡ o
+unfolding textAnswer putInto
+text-stays n a u text o e =
+    byLt (length o) (length text)
+    (λ h. rw (lt-leb (0 + length text) (length o) (omega arith)))
+    (λ h. not-given (sym (rw (le-ltb (length o) (length text) h) at e)))
