@@ -4,15 +4,16 @@ use Prim.Native.Nat.{ℕ, zero, suc, _+_, _*_, _^_, _<_, _≤_}
 use native.Mathlib.Nat.{div-add-mod', zero-add}
 use native.Mathlib.Omega.{arith}
 use mathlib.Core.Path.{_≡_, refl, ap, sym, _∙_, subst}
-use mathlib.Core.Bool.{Bool, true, false, cond, _&&_}
+use mathlib.Core.Bool.{Bool, true, _&&_}
 use mathlib.Core.List.{List, [], _∷_}
 use lib.Dec.{ltb, eqb}
 use lib.ListN.{length, getD, set, replicate}
 use lib.Seq.{getD-set-same, getD-set-other, length-sets, lt-length-set}
-use borrow.Author.Tests.{eqb-true, eq-eqb, ne-eqb, lt-ltb, le-ltb, le-leb}
+use borrow.Author.Tests.{eqb-true, eq-eqb, lt-ltb, le-ltb, le-leb}
 use Rattle.base.specs.Cases.{byBool, byEq, byLt, never}
 use Rattle.base.specs.Every.{Each, both-left, both-right, both-true}
-use Rattle.refusal.specs.Answer.{given, refused, map, then}
+use Rattle.refusal.specs.Answer.{given, map, then}
+use Rattle.refusal.proofs.Answers.{given-same, passed}
 use Rattle.tagset.specs.Sets.{holds}
 use Rattle.tagset.specs.declared.TagSet.{TagSet}
 use Rattle.knowing.specs.Good.{good}
@@ -20,7 +21,7 @@ use Rattle.catalogue.specs.Shapes.{shapeOf}
 use Rattle.catalogue.specs.declared.Shape.{Shape}
 use Rattle.catalogue.specs.declared.Shape.the-variants.{Text, Number, Absent}
 use Rattle.rows.specs.Meaning.{Row, shapeFor, kindFor, markCode, readingKind, markKind, textKind, carriedKind, saidBy}
-use Rattle.rows.specs.Taken.{spotPlace, spotLength, tagGood, codeGood, contentGood, rowGood, countGood, tagShown, rowAt, partOf, contentOf, rowTakenAt}
+use Rattle.rows.specs.Taken.{spotLength, tagGood, codeGood, contentGood, rowGood, countGood, tagShown, rowAt, partOf, contentOf, rowTakenAt}
 use Rattle.rows.specs.declared.Row.{Row as Record}
 use Rattle.rows.specs.declared.Part.{Part}
 use Rattle.packet.specs.Judge.{Knowing}
@@ -236,15 +237,11 @@ record Took (K : TagSet) (room n k : ℕ) (w : List ℕ) (x : Record) : Type 0 w
 took : (K : TagSet) (room n k : ℕ) (w : List ℕ) (x : Record) → rowTakenAt K room n k w ≡ given x → Took K room n k w x
 unfolding rowTakenAt
 took K room n k w x e =
-    byBool (good K)
-    (λ s. byBool (countGood n (length w))
-    (λ c. byBool (ltb k n)
-    (λ l. byBool (rowGood (shapeFor (holds K) (rowAt w k .tag)) room (rowAt w k))
-    (λ g. let f : given (taken (rowAt w k)) ≡ given x = rw (s, c, l, g) at e in record { counted = c; kept = g; is = cc })
-    (λ g. let f : refused 17 k (tagShown (rowAt w k .tag)) ≡ given x = rw (s, c, l, g) at e in never (cc)))
-    (λ l. let f : refused 17 k 0 ≡ given x = rw (s, c, l) at e in never (cc)))
-    (λ c. let f : refused 16 0 0 ≡ given x = rw (s, c) at e in never (cc)))
-    (λ s. let f : refused 1 0 0 ≡ given x = rw s at e in never (cc))
+    let s = passed (good K) _ 1 0 0 e in
+    let c = passed (countGood n (length w)) _ 16 0 0 (s .1) in
+    let l = passed (ltb k n) _ 17 k 0 (c .1) in
+    let g = passed (rowGood (shapeFor (holds K) (rowAt w k .tag)) room (rowAt w k)) _ 17 k (tagShown (rowAt w k .tag)) (l .1) in
+    record { counted = c .0; kept = g .0; is = given-same (g .1) }
 
 -- ---- lists of rows
 module _ (K : Knowing) (b : List ℕ) where
@@ -296,7 +293,9 @@ module _ (K : TagSet) (w b : List ℕ) (rs : List Record) (h : Words w) (p : Tak
   unfolding outgoing
   outgoing-same =
       let m : countGood (length rs) (length w) ≡ true = both-true _ _ (le-leb _ _ (few .0)) (le-leb _ _ (few .1)) in
-      rw (count-fits rs (few .0), m, good-all (holds K) b 0 (rowsIn 0 (length rs) (tableOf rs)) table-good, good-all (holds K) b 0 (rowsIn 0 (length rs) w) words-good, pieces-are)
+      let ours = good-all (holds K) b 0 (rowsIn 0 (length rs) (tableOf rs)) table-good in
+      let theirs = good-all (holds K) b 0 (rowsIn 0 (length rs) w) words-good in
+      rw (count-fits rs (few .0), m, ours, theirs, pieces-are)
 
   -- the same packet or the same refusal, for any room
   pub records-written : (room : ℕ) → written K (length rs) (tableOf rs) b room ≡ written K (length rs) w b room
@@ -324,12 +323,13 @@ taken-at k (suc n) w (suc j) l =
     let e : suc k + j ≡ k + suc j = omega arith in
     taken-at (suc k) n w j (omega (arith, l)) ∙ ap (λ i. taken (rowAt w i)) e
 
-good-at : (K : Knowing) (b : List ℕ) (k n : ℕ) (w : List ℕ) → Each (GoodRow K b) (rowsIn k n w) → (j : ℕ) → j < n → GoodRow K b (rowAt w (k + j))
+good-at : (K : Knowing) (b : List ℕ) (k n : ℕ) (w : List ℕ) → Each (GoodRow K b) (rowsIn k n w) → (j : ℕ) → k ≤ j → j < k + n → GoodRow K b (rowAt w j)
 unfolding rowsIn
-good-at K b k zero w g j l = absurd (omega (arith, l))
-good-at K b k (suc n) w g zero l = let e : k ≡ k + 0 = omega arith in subst (λ i. GoodRow K b (rowAt w i)) e (g .0)
-good-at K b k (suc n) w g (suc j) l = let e : suc k + j ≡ k + suc j = omega arith in subst (λ i. GoodRow K b (rowAt w i)) e
-    (good-at K b (suc k) n w (g .1) j (omega (arith, l)))
+good-at K b k zero w g j l m = absurd (omega (arith, l, m))
+good-at K b k (suc n) w g j l m =
+    byEq k j
+    (λ same. subst (λ i. GoodRow K b (rowAt w i)) same (g .0))
+    (λ other. good-at K b (suc k) n w (g .1) j (omega (arith, l, other)) (omega (arith, m)))
 
 pub good-taken-out : (K : TagSet) (b : List ℕ) (n : ℕ) (w : List ℕ) → good K ≡ true → countGood n (length w) ≡ true → Each (GoodRow (holds K) b) (rowsIn 0 n w)
     → TakenOut K (length b) w (takenFrom 0 n w)
@@ -338,7 +338,7 @@ good-taken-out K b n w s c g = record {
   row = λ k l.
       let all = taken-length 0 n w in
       let below : k < n = rw all at l in
-      let fine : GoodRow (holds K) b (rowAt w k) = subst (λ i. GoodRow (holds K) b (rowAt w i)) (zero-add k) (good-at (holds K) b 0 n w g k below) in
+      let fine : GoodRow (holds K) b (rowAt w k) = good-at (holds K) b 0 n w g k (omega arith) (omega (arith, below)) in
       let same : getD (takenFrom 0 n w) k none ≡ taken (rowAt w k) = taken-at 0 n w k below ∙ ap (λ i. taken (rowAt w i)) (zero-add k) in
       rw (all, s, c, lt-ltb k n below, fine, same);
 }
