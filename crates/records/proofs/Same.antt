@@ -7,8 +7,8 @@ use mathlib.Core.Path.{_≡_, refl, ap, sym, _∙_, subst}
 use mathlib.Core.Bool.{Bool, true, _&&_}
 use mathlib.Core.List.{List, [], _∷_}
 use lib.Dec.{ltb, eqb}
-use lib.ListN.{length, getD, set, replicate}
-use lib.Seq.{getD-set-same, getD-set-other, length-sets, lt-length-set}
+use lib.ListN.{length, getD, set, replicate, length-set}
+use lib.Seq.{sets, getD-set-same, getD-set-other, length-sets}
 use borrow.Author.Tests.{eqb-true, eq-eqb, lt-ltb, le-ltb, le-leb}
 use Rattle.base.specs.Cases.{byBool, byEq, byLt, never}
 use Rattle.base.specs.Every.{Each, both-left, both-right, both-true}
@@ -151,57 +151,41 @@ length-images (suc n) rs t =
     let r = imageOf (getD rs n none) in
     length-sets (imagesInto n rs t) (4 * n) (r .tag ∷ r .kind ∷ r .code ∷ r .spot ∷ []) ∙ length-images n rs t
 
--- four stores, one after the other
+-- words stored one after the other: those before them stay, and each is there
+stored-before : (vs l : List ℕ) (i j : ℕ) → j < i → getD (sets l i vs) j 0 ≡ getD l j 0
+stored-before [] l i j h = refl
+stored-before (v ∷ vs) l i j h =
+    stored-before vs (set l i v) (suc i) j (omega (arith, h)) ∙ getD-set-other l i j v 0 (λ e. omega (arith, h, e))
+
+stored-at : (vs l : List ℕ) (i k : ℕ) → k < length vs → i + length vs ≤ length l → getD (sets l i vs) (i + k) 0 ≡ getD vs k 0
+stored-at [] l i k h m = absurd (omega (arith, h))
+stored-at (v ∷ vs) l i zero h m =
+    let e : i + 0 ≡ i = omega arith in
+    rw e (stored-before vs (set l i v) (suc i) i (omega arith) ∙ getD-set-same l i v 0 (omega (arith, m)))
+stored-at (v ∷ vs) l i (suc k) h m =
+    let e : i + suc k ≡ suc i + k = omega arith in
+    rw e (stored-at vs (set l i v) (suc i) k (omega (arith, h)) (rw (length-set l i v) (omega (arith, m))))
+
 module _ (t : List ℕ) (n : ℕ) (r : Row) where
-  abbrev i : ℕ
-  i = 4 * n
-
-  abbrev one : List ℕ
-  one = set t i (r .tag)
-
-  abbrev two : List ℕ
-  two = set one (suc i) (r .kind)
-
-  abbrev three : List ℕ
-  three = set two (suc (suc i)) (r .code)
-
-  -- a word before or after the second, third and fourth
-  past : (j : ℕ) → (j ≡ suc i → ⊥) → (j ≡ suc (suc i) → ⊥) → (j ≡ suc (suc (suc i)) → ⊥) → getD (putImage t n r) j 0 ≡ getD one j 0
-  past j a b c = getD-set-other three (suc (suc (suc i))) j (r .spot) 0 c ∙ getD-set-other two (suc (suc i)) j (r .code) 0 b
-      ∙ getD-set-other one (suc i) j (r .kind) 0 a
-
-  before : (j : ℕ) → j < i → getD (putImage t n r) j 0 ≡ getD t j 0
-  before j h = past j (λ e. omega (arith, h, e)) (λ e. omega (arith, h, e)) (λ e. omega (arith, h, e))
-      ∙ getD-set-other t i j (r .tag) 0 (λ e. omega (arith, h, e))
+  abbrev four : List ℕ
+  four = r .tag ∷ r .kind ∷ r .code ∷ r .spot ∷ []
 
   put-other : (k : ℕ) → k < n → rowAt (putImage t n r) k ≡ rowAt t k
   unfolding rowAt
-  put-other k h =
-      words-of (before (4 * k) (omega (arith, h))) (before (4 * k + 1) (omega (arith, h))) (before (4 * k + 2) (omega (arith, h)))
-      (before (4 * k + 3) (omega (arith, h)))
+  put-other k h = words-of (stays (4 * k) (omega (arith, h))) (stays (4 * k + 1) (omega (arith, h))) (stays (4 * k + 2) (omega (arith, h)))
+      (stays (4 * k + 3) (omega (arith, h)))
+    where
+      stays : (j : ℕ) → j < 4 * n → getD (putImage t n r) j 0 ≡ getD t j 0
+      stays = stored-before four t (4 * n)
 
   put-at : 4 * n + 4 ≤ length t → rowAt (putImage t n r) n ≡ r
   unfolding rowAt
   put-at h =
-      words-of
-      (past i (λ e. omega (arith, e)) (λ e. omega (arith, e)) (λ e. omega (arith, e)) ∙ getD-set-same t i (r .tag) 0 (omega (arith, h)))
-      (ap (λ j. getD (putImage t n r) j 0) second ∙ getD-set-other three (suc (suc (suc i))) (suc i) (r .spot) 0 (λ e. omega (arith, e))
-      ∙ getD-set-other two (suc (suc i)) (suc i) (r .code) 0 (λ e. omega (arith, e))
-      ∙ getD-set-same one (suc i) (r .kind) 0 (lt-length-set t i (r .tag) (omega (arith, h))))
-      (ap (λ j. getD (putImage t n r) j 0) third ∙ getD-set-other three (suc (suc (suc i))) (suc (suc i)) (r .spot) 0 (λ e. omega (arith, e))
-      ∙ getD-set-same two (suc (suc i)) (r .code) 0 (lt-length-set one (suc i) (r .kind) (lt-length-set t i (r .tag) (omega (arith, h)))))
-      (ap (λ j. getD (putImage t n r) j 0) fourth
-      ∙ getD-set-same three (suc (suc (suc i))) (r .spot) 0 (lt-length-set two (suc (suc i)) (r .code)
-      (lt-length-set one (suc i) (r .kind) (lt-length-set t i (r .tag) (omega (arith, h))))))
+      let e : 4 * n ≡ 4 * n + 0 = omega arith in
+      words-of (ap (λ j. getD (putImage t n r) j 0) e ∙ is 0 (omega arith)) (is 1 (omega arith)) (is 2 (omega arith)) (is 3 (omega arith))
     where
-      second : 4 * n + 1 ≡ suc i
-      second = omega arith
-
-      third : 4 * n + 2 ≡ suc (suc i)
-      third = omega arith
-
-      fourth : 4 * n + 3 ≡ suc (suc (suc i))
-      fourth = omega arith
+      is : (k : ℕ) → k < 4 → getD (putImage t n r) (4 * n + k) 0 ≡ getD four k 0
+      is k l = stored-at four t (4 * n) k l h
 
 image-at : (n : ℕ) (rs : List Record) (t : List ℕ) → 4 * n ≤ length t → (k : ℕ) → k < n → rowAt (imagesInto n rs t) k ≡ imageOf (getD rs k none)
 unfolding imagesInto
