@@ -1,4 +1,4 @@
--- What the writer over records refuses by its cover alone: over 128 records, and a part that a word cannot hold.
+-- What the writer over records refuses by its cover alone: over 128 records, and a part that a word cannot hold; and which record gets 17.
 -- Assumes nothing.
 use Prim.Native.Nat.{ℕ, zero, suc, _+_, _^_, _<_, _≤_}
 use native.Mathlib.Omega.{arith}
@@ -32,7 +32,7 @@ pub too-many : (K : TagSet) (rs : List Record) (b : List ℕ) (room : ℕ) → g
 unfolding written outgoing
 too-many K rs b room s h = rw (s, lt-leb _ _ h)
 
--- no shape and no code has no kind
+-- every shape gives every code a kind
 kind-some : (s : Shape) (code : ℕ) → noKind ≡ kindFor s code → ⊥
 kind-some (Number width marked) code e =
     byBool (marked && eqb code (markCode width))
@@ -50,15 +50,11 @@ pub unheld-bad : (s : Shape) (room tag : ℕ) (m : Meaning Part) → holdable (p
 unfolding rowGood
 unheld-bad s room tag m e = rw (e, ne-eqb noKind (kindFor s 0) (kind-some s 0)) (with-false (tagGood tag))
 
-both-false : (a b : Bool) → (a ≡ true → b ≡ false) → a && b ≡ false
-both-false true b f = f refl
-both-false false b f = refl
-
 pub large-place-bad : (s : Shape) (room tag : ℕ) (m : Meaning Part) → 2 ^ 48 ≤ partIn m .place → rowGood s room (rowSaying tag m) ≡ false
 large-place-bad s room tag m h = unheld-bad s room tag m (rw (le-ltb (partIn m .place) (2 ^ 48) h))
 
 pub long-part-bad : (s : Shape) (room tag : ℕ) (m : Meaning Part) → 65536 ≤ partIn m .length → rowGood s room (rowSaying tag m) ≡ false
-long-part-bad s room tag m h = unheld-bad s room tag m (both-false (ltb (partIn m .place) (2 ^ 48)) _ (λ e. le-ltb (partIn m .length) 65536 h))
+long-part-bad s room tag m h = unheld-bad s room tag m (rw (le-ltb (partIn m .length) 65536 h) (with-false (ltb (partIn m .place) (2 ^ 48))))
 
 -- ---- the first bad row gets 17 with its number and its tag
 module _ (K : Knowing) (b : List ℕ) where

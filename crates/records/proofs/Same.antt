@@ -4,16 +4,17 @@ use Prim.Native.Nat.{ℕ, zero, suc, _+_, _*_, _^_, _<_, _≤_}
 use native.Mathlib.Nat.{div-add-mod', zero-add}
 use native.Mathlib.Omega.{arith}
 use mathlib.Core.Path.{_≡_, refl, ap, sym, _∙_, subst}
-use mathlib.Core.Bool.{Bool, true, false, cond, _&&_}
+use mathlib.Core.Bool.{Bool, true, _&&_}
 use mathlib.Core.List.{List, [], _∷_}
 use lib.Dec.{ltb, eqb}
-use lib.ListN.{length, getD, set, replicate}
-use lib.Seq.{getD-set-same, getD-set-other, length-sets, lt-length-set}
-use borrow.Author.Tests.{eqb-true, eq-eqb, ne-eqb, lt-ltb, le-ltb, le-leb}
+use lib.ListN.{length, getD, set, replicate, length-set}
+use lib.Seq.{sets, getD-set-same, getD-set-other, length-sets}
+use borrow.Author.Tests.{eqb-true, eq-eqb, lt-ltb, le-ltb, le-leb}
 use Rattle.base.proofs.Cases.{byBool, byEq, byLt, never}
 use Rattle.base.specs.Every.{Each}
 use Rattle.base.proofs.Every.{both-left, both-right, both-true}
-use Rattle.refusal.specs.Answer.{given, refused, map, then}
+use Rattle.refusal.specs.Answer.{given, map, then}
+use Rattle.refusal.proofs.Answers.{given-same, passed}
 use Rattle.tagset.specs.Sets.{holds}
 use Rattle.tagset.specs.declared.TagSet.{TagSet}
 use Rattle.knowing.specs.Good.{good}
@@ -21,7 +22,7 @@ use Rattle.catalogue.specs.Shapes.{shapeOf}
 use Rattle.catalogue.specs.declared.Shape.{Shape}
 use Rattle.catalogue.specs.declared.Shape.the-variants.{Text, Number, Absent}
 use Rattle.rows.specs.Meaning.{Row, shapeFor, kindFor, markCode, readingKind, markKind, textKind, carriedKind, saidBy}
-use Rattle.rows.specs.Taken.{spotPlace, spotLength, tagGood, codeGood, contentGood, rowGood, countGood, tagShown, rowAt, partOf, contentOf, rowTakenAt, GoodRow}
+use Rattle.rows.specs.Taken.{spotLength, tagGood, codeGood, contentGood, rowGood, countGood, tagShown, rowAt, partOf, contentOf, rowTakenAt, GoodRow}
 use Rattle.rows.specs.declared.Row.{Row as Record}
 use Rattle.rows.specs.declared.Part.{Part}
 use Rattle.packet.specs.Judge.{Knowing}
@@ -150,57 +151,41 @@ length-images (suc n) rs t =
     let r = imageOf (getD rs n none) in
     length-sets (imagesInto n rs t) (4 * n) (r .tag ∷ r .kind ∷ r .code ∷ r .spot ∷ []) ∙ length-images n rs t
 
--- four stores, one after the other
+-- words stored one after the other: those before them stay, and each is there
+stored-before : (vs l : List ℕ) (i j : ℕ) → j < i → getD (sets l i vs) j 0 ≡ getD l j 0
+stored-before [] l i j h = refl
+stored-before (v ∷ vs) l i j h =
+    stored-before vs (set l i v) (suc i) j (omega (arith, h)) ∙ getD-set-other l i j v 0 (λ e. omega (arith, h, e))
+
+stored-at : (vs l : List ℕ) (i k : ℕ) → k < length vs → i + length vs ≤ length l → getD (sets l i vs) (i + k) 0 ≡ getD vs k 0
+stored-at [] l i k h m = absurd (omega (arith, h))
+stored-at (v ∷ vs) l i zero h m =
+    let e : i + 0 ≡ i = omega arith in
+    rw e (stored-before vs (set l i v) (suc i) i (omega arith) ∙ getD-set-same l i v 0 (omega (arith, m)))
+stored-at (v ∷ vs) l i (suc k) h m =
+    let e : i + suc k ≡ suc i + k = omega arith in
+    rw e (stored-at vs (set l i v) (suc i) k (omega (arith, h)) (rw (length-set l i v) (omega (arith, m))))
+
 module _ (t : List ℕ) (n : ℕ) (r : Row) where
-  abbrev i : ℕ
-  i = 4 * n
-
-  abbrev one : List ℕ
-  one = set t i (r .tag)
-
-  abbrev two : List ℕ
-  two = set one (suc i) (r .kind)
-
-  abbrev three : List ℕ
-  three = set two (suc (suc i)) (r .code)
-
-  -- a word before or after the second, third and fourth
-  past : (j : ℕ) → (j ≡ suc i → ⊥) → (j ≡ suc (suc i) → ⊥) → (j ≡ suc (suc (suc i)) → ⊥) → getD (putImage t n r) j 0 ≡ getD one j 0
-  past j a b c = getD-set-other three (suc (suc (suc i))) j (r .spot) 0 c ∙ getD-set-other two (suc (suc i)) j (r .code) 0 b
-      ∙ getD-set-other one (suc i) j (r .kind) 0 a
-
-  before : (j : ℕ) → j < i → getD (putImage t n r) j 0 ≡ getD t j 0
-  before j h = past j (λ e. omega (arith, h, e)) (λ e. omega (arith, h, e)) (λ e. omega (arith, h, e))
-      ∙ getD-set-other t i j (r .tag) 0 (λ e. omega (arith, h, e))
+  abbrev four : List ℕ
+  four = r .tag ∷ r .kind ∷ r .code ∷ r .spot ∷ []
 
   put-other : (k : ℕ) → k < n → rowAt (putImage t n r) k ≡ rowAt t k
   unfolding rowAt
-  put-other k h =
-      words-of (before (4 * k) (omega (arith, h))) (before (4 * k + 1) (omega (arith, h))) (before (4 * k + 2) (omega (arith, h)))
-      (before (4 * k + 3) (omega (arith, h)))
+  put-other k h = words-of (stays (4 * k) (omega (arith, h))) (stays (4 * k + 1) (omega (arith, h))) (stays (4 * k + 2) (omega (arith, h)))
+      (stays (4 * k + 3) (omega (arith, h)))
+    where
+      stays : (j : ℕ) → j < 4 * n → getD (putImage t n r) j 0 ≡ getD t j 0
+      stays = stored-before four t (4 * n)
 
   put-at : 4 * n + 4 ≤ length t → rowAt (putImage t n r) n ≡ r
   unfolding rowAt
   put-at h =
-      words-of
-      (past i (λ e. omega (arith, e)) (λ e. omega (arith, e)) (λ e. omega (arith, e)) ∙ getD-set-same t i (r .tag) 0 (omega (arith, h)))
-      (ap (λ j. getD (putImage t n r) j 0) second ∙ getD-set-other three (suc (suc (suc i))) (suc i) (r .spot) 0 (λ e. omega (arith, e))
-      ∙ getD-set-other two (suc (suc i)) (suc i) (r .code) 0 (λ e. omega (arith, e))
-      ∙ getD-set-same one (suc i) (r .kind) 0 (lt-length-set t i (r .tag) (omega (arith, h))))
-      (ap (λ j. getD (putImage t n r) j 0) third ∙ getD-set-other three (suc (suc (suc i))) (suc (suc i)) (r .spot) 0 (λ e. omega (arith, e))
-      ∙ getD-set-same two (suc (suc i)) (r .code) 0 (lt-length-set one (suc i) (r .kind) (lt-length-set t i (r .tag) (omega (arith, h)))))
-      (ap (λ j. getD (putImage t n r) j 0) fourth
-      ∙ getD-set-same three (suc (suc (suc i))) (r .spot) 0 (lt-length-set two (suc (suc i)) (r .code)
-      (lt-length-set one (suc i) (r .kind) (lt-length-set t i (r .tag) (omega (arith, h))))))
+      let e : 4 * n ≡ 4 * n + 0 = omega arith in
+      words-of (ap (λ j. getD (putImage t n r) j 0) e ∙ is 0 (omega arith)) (is 1 (omega arith)) (is 2 (omega arith)) (is 3 (omega arith))
     where
-      second : 4 * n + 1 ≡ suc i
-      second = omega arith
-
-      third : 4 * n + 2 ≡ suc (suc i)
-      third = omega arith
-
-      fourth : 4 * n + 3 ≡ suc (suc (suc i))
-      fourth = omega arith
+      is : (k : ℕ) → k < 4 → getD (putImage t n r) (4 * n + k) 0 ≡ getD four k 0
+      is k l = stored-at four t (4 * n) k l h
 
 image-at : (n : ℕ) (rs : List Record) (t : List ℕ) → 4 * n ≤ length t → (k : ℕ) → k < n → rowAt (imagesInto n rs t) k ≡ imageOf (getD rs k none)
 unfolding imagesInto
@@ -236,15 +221,11 @@ record Took (K : TagSet) (room n k : ℕ) (w : List ℕ) (x : Record) : Type 0 w
 took : (K : TagSet) (room n k : ℕ) (w : List ℕ) (x : Record) → rowTakenAt K room n k w ≡ given x → Took K room n k w x
 unfolding rowTakenAt
 took K room n k w x e =
-    byBool (good K)
-    (λ s. byBool (countGood n (length w))
-    (λ c. byBool (ltb k n)
-    (λ l. byBool (rowGood (shapeFor (holds K) (rowAt w k .tag)) room (rowAt w k))
-    (λ g. let f : given (taken (rowAt w k)) ≡ given x = rw (s, c, l, g) at e in record { counted = c; kept = g; is = cc })
-    (λ g. let f : refused 17 k (tagShown (rowAt w k .tag)) ≡ given x = rw (s, c, l, g) at e in never (cc)))
-    (λ l. let f : refused 17 k 0 ≡ given x = rw (s, c, l) at e in never (cc)))
-    (λ c. let f : refused 16 0 0 ≡ given x = rw (s, c) at e in never (cc)))
-    (λ s. let f : refused 1 0 0 ≡ given x = rw s at e in never (cc))
+    let s = passed (good K) _ 1 0 0 e in
+    let c = passed (countGood n (length w)) _ 16 0 0 (s .1) in
+    let l = passed (ltb k n) _ 17 k 0 (c .1) in
+    let g = passed (rowGood (shapeFor (holds K) (rowAt w k .tag)) room (rowAt w k)) _ 17 k (tagShown (rowAt w k .tag)) (l .1) in
+    record { counted = c .0; kept = g .0; is = given-same (g .1) }
 
 -- ---- lists of rows
 module _ (K : Knowing) (b : List ℕ) where
@@ -296,7 +277,9 @@ module _ (K : TagSet) (w b : List ℕ) (rs : List Record) (h : Words w) (p : Tak
   unfolding outgoing
   outgoing-same =
       let m : countGood (length rs) (length w) ≡ true = both-true _ _ (le-leb _ _ (few .0)) (le-leb _ _ (few .1)) in
-      rw (count-fits rs (few .0), m, good-all (holds K) b 0 (rowsIn 0 (length rs) (tableOf rs)) table-good, good-all (holds K) b 0 (rowsIn 0 (length rs) w) words-good, pieces-are)
+      let ours = good-all (holds K) b 0 (rowsIn 0 (length rs) (tableOf rs)) table-good in
+      let theirs = good-all (holds K) b 0 (rowsIn 0 (length rs) w) words-good in
+      rw (count-fits rs (few .0), m, ours, theirs, pieces-are)
 
   -- the same packet or the same refusal, for any room
   pub records-written : (room : ℕ) → written K (length rs) (tableOf rs) b room ≡ written K (length rs) w b room
@@ -324,12 +307,13 @@ taken-at k (suc n) w (suc j) l =
     let e : suc k + j ≡ k + suc j = omega arith in
     taken-at (suc k) n w j (omega (arith, l)) ∙ ap (λ i. taken (rowAt w i)) e
 
-good-at : (K : Knowing) (b : List ℕ) (k n : ℕ) (w : List ℕ) → Each (GoodRow K b) (rowsIn k n w) → (j : ℕ) → j < n → GoodRow K b (rowAt w (k + j))
+good-at : (K : Knowing) (b : List ℕ) (k n : ℕ) (w : List ℕ) → Each (GoodRow K b) (rowsIn k n w) → (j : ℕ) → k ≤ j → j < k + n → GoodRow K b (rowAt w j)
 unfolding rowsIn
-good-at K b k zero w g j l = absurd (omega (arith, l))
-good-at K b k (suc n) w g zero l = let e : k ≡ k + 0 = omega arith in subst (λ i. GoodRow K b (rowAt w i)) e (g .0)
-good-at K b k (suc n) w g (suc j) l = let e : suc k + j ≡ k + suc j = omega arith in subst (λ i. GoodRow K b (rowAt w i)) e
-    (good-at K b (suc k) n w (g .1) j (omega (arith, l)))
+good-at K b k zero w g j l m = absurd (omega (arith, l, m))
+good-at K b k (suc n) w g j l m =
+    byEq k j
+    (λ same. subst (λ i. GoodRow K b (rowAt w i)) same (g .0))
+    (λ other. good-at K b (suc k) n w (g .1) j (omega (arith, l, other)) (omega (arith, m)))
 
 pub good-taken-out : (K : TagSet) (b : List ℕ) (n : ℕ) (w : List ℕ) → good K ≡ true → countGood n (length w) ≡ true → Each (GoodRow (holds K) b) (rowsIn 0 n w)
     → TakenOut K (length b) w (takenFrom 0 n w)
@@ -338,7 +322,7 @@ good-taken-out K b n w s c g = record {
   row = λ k l.
       let all = taken-length 0 n w in
       let below : k < n = rw all at l in
-      let fine : GoodRow (holds K) b (rowAt w k) = subst (λ i. GoodRow (holds K) b (rowAt w i)) (zero-add k) (good-at (holds K) b 0 n w g k below) in
+      let fine : GoodRow (holds K) b (rowAt w k) = good-at (holds K) b 0 n w g k (omega arith) (omega (arith, below)) in
       let same : getD (takenFrom 0 n w) k none ≡ taken (rowAt w k) = taken-at 0 n w k below ∙ ap (λ i. taken (rowAt w i)) (zero-add k) in
       rw (all, s, c, lt-ltb k n below, fine, same);
 }

@@ -41,7 +41,7 @@ partIn (carried part) = part
 abbrev pub holdable : Part → Bool
 holdable part = ltb (part .place) (2 ^ 48) && ltb (part .length) 65536
 
--- bad for every receiver
+-- the kind where it cannot, which is bad for every receiver
 abbrev pub noKind : ℕ
 noKind = 0
 
@@ -51,7 +51,7 @@ rowWith tag kind code part =
     (record { tag = tag; kind = kind; code = code; spot = part .place * 65536 + part .length })
     (record { tag = tag; kind = noKind; code = 0; spot = 0 })
 
--- the row of what an item says
+-- the row of what is said of an item
 abbrev pub rowSaying : ℕ → Meaning Part → Row
 rowSaying tag m = rowWith tag (kindOf m) (codeOf m) (partIn m)
 

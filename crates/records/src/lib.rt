@@ -64,9 +64,10 @@ fn mark_code(width: usize) -> u64
     1 << (8 * width - 1)
 }
 
-// A part that a word cannot hold has no kind, which the writer refuses.
+// The kind of a row whose place and length a word cannot hold: the writer refuses it.
 const NO_KIND: u64 = 0;
 
+// The four words of a kind and a code, and of where the bytes stand.
 fn row_with(tag: u64, kind: u64, code: u64, part: Part) -> RowWords
     ensures { λ r. ⌜ r ≡ rowWith tag kind code part ⌝ }
 {
@@ -96,6 +97,7 @@ fn image_of(row: Row) -> RowWords
 {
     let tag = row.tag;
     let width = width_of(tag);
+    // a number stands at place 0
     let number = Part {
         place: 0,
         length: width,

@@ -149,7 +149,8 @@ module _ {M : Type 1} (𝓤 : URA M) (H : Heap 𝓤) (A : Atoms 𝓤) (W : Given
     Left = afterBlock 𝓤 H (afterSeq 𝓤 H (Wp 𝓤 H C Λ En mir.t-4 (atReturn 𝓤 H En Post)) (atReturn 𝓤 H En Post))
 
     -- a turn that puts a record
-    more : (i : ℕ) (u : Val) (X : SProp 𝓤) → i < n → Is AR (upto i) (u ∷ []) → ((u′ : Val) → Is AR (upto (suc i)) (u′ ∷ []) → ent 𝓤 (⋆ 𝓤 H A (At (suc i) u′)) X)
+    more : (i : ℕ) (u : Val) (X : SProp 𝓤) → i < n → Is AR (upto i) (u ∷ [])
+        → ((u′ : Val) → Is AR (upto (suc i)) (u′ ∷ []) → ent 𝓤 (⋆ 𝓤 H A (At (suc i) u′)) X)
         → ent 𝓤 (⋆ 𝓤 H A (At i u)) (Wp 𝓤 H C Λ En mir.turn-1 (afterTurn 𝓤 H X Left))
     unfolding afterTurn
     more i u X small is k =
@@ -227,7 +228,8 @@ module _ {M : Type 1} (𝓤 : URA M) (H : Heap 𝓤) (A : Atoms 𝓤) (W : Given
       meets 𝓤 H A W 𝓣 code.function table-of.ended stayed (table-of.clauses 𝓤 H A mem run)
       (goes-none-slice 𝓤 H A W 1 (0 ∷ []) tt (plain (λ _. R.the-row)) yes, (goes-none 𝓤 H A W 1 (λ _. usize) yes (λ κs x f. refl), tt))
       (λ κs. (slice-vals, (uint-vals w64, tt))) (λ κs. (shr-slice-tells (named 0) (κs .0) R.the-row, (uint-tells w64, tt)))
-      (λ κs qs bounds a g are. needs 𝓤 _ _ (walk 𝓤 H A W mem run (κs .0) (qs .0) (a .0) (a .1 .0) 𝓣 known-blank known-record known-put (are .0) (are .1 .0 .1)))
+      (λ κs qs bounds a g are. needs 𝓤 _ _
+      (walk 𝓤 H A W mem run (κs .0) (qs .0) (a .0) (a .1 .0) 𝓣 known-blank known-record known-put (are .0) (are .1 .0 .1)))
 
 pub table-of-spec : {M : Type 1} → stated.statement M
 unfolding code.routine tablesOf

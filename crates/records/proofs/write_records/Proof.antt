@@ -216,8 +216,8 @@ module _ {M : Type 1} (𝓤 : URA M) (H : Heap 𝓤) (A : Atoms 𝓤) (W : Given
         (and-then ! (local ! 22 refl) (no-more !)) (λ w c ec isc. land ! (from ! (stop !)) (init ! 16 refl (uint-lawful 𝓤 H A W w64 .typed c _ isc .0)) $
         -- `fitting_of`
         use0 W (raw (FittingOf 𝓤 H A mem run .pre (to-fit c w, tt))) (goes-fit c w isc) $
-        calls-said ! fm fitting-of.ended (fitting-of.clauses 𝓤 H A mem run) known-fit (to-fit c w) tt (‵ ftrue) (id⊢ 𝓤 _) (λ n. n ≡ fitting c) (λ n ws. id⊢ 𝓤 _)
-        (and-then ! (local ! 17 refl) (no-more !)) (λ w′ n en isn. drop ! $
+        calls-said ! fm fitting-of.ended (fitting-of.clauses 𝓤 H A mem run) known-fit (to-fit c w) tt (‵ ftrue) (id⊢ 𝓤 _)
+        (λ n. n ≡ fitting c) (λ n ws. id⊢ 𝓤 _) (and-then ! (local ! 17 refl) (no-more !)) (λ w′ n en isn. drop ! $
         land ! (from ! (stop !)) (init ! 14 refl (uint-lawful 𝓤 H A W w64 .typed n _ isn .0)) $
         -- `table_of`
         use2 W (raw (TableOf 𝓤 H A mem run .pre (to-table n w′, tt)) ⊛ ‵ OwnR) (goes-table n w′ isn
