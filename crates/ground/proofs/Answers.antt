@@ -8,7 +8,7 @@ use borrow.Author.Tests.{lt-ltb, le-ltb}
 use Rattle.base.proofs.Cases.{never}
 use Rattle.refusal.specs.Answer.{given}
 use Rattle.rows.specs.Meaning.{Row}
-use Rattle.ground.specs.Values.{valueIn, Small}
+use Rattle.ground.specs.Values.{valueFor, Small}
 use Rattle.ground.specs.Ground.{heightBy, heightIn, CornerSeen, noCorner, offTheEarth, on, fullCorner, offsetCorner, otherwise, cornerIn}
 use Rattle.ground.specs.Said.{cornerSaid}
 use Rattle.ground.specs.declared.Value.{Value}
@@ -16,11 +16,11 @@ use Rattle.ground.specs.declared.Corner.{Corner}
 use Rattle.ground.specs.declared.Corner.the-variants as corner
 use Rattle.ground.proofs.Values.{value-small}
 
-pub small-value : (t : ℕ) (rs : List Row) (x : Value) → x ≡ valueIn t rs → Small x
+pub small-value : (t : ℕ) (rs : List Row) (x : Value) → x ≡ valueFor t rs → Small x
 small-value t rs x e = rw e (value-small t rs)
 
 -- the two values that a height goes by
-pub height-told : (t u : ℕ) (rs : List Row) (x y a b : Value) → x ≡ valueIn t rs → y ≡ valueIn u rs → x ≡ a → y ≡ b
+pub height-told : (t u : ℕ) (rs : List Row) (x y a b : Value) → x ≡ valueFor t rs → y ≡ valueFor u rs → x ≡ a → y ≡ b
     → given (heightBy a b) ≡ given (heightIn t u rs)
 unfolding heightIn
 height-told t u rs x y a b e f g h = rw (← e, ← f, g, h)

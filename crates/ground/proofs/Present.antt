@@ -24,7 +24,7 @@ use Rattle.catalogue.specs.declared.Found.{Found}
 use Rattle.catalogue.specs.declared.Found.the-variants.{Known, Absent as Unlisted}
 use Rattle.catalogue.specs.declared.Shape.the-variants.{Number}
 use Rattle.rows.specs.Meaning.{Row, shapeFor, markCode, kindFor, isNumber as number}
-use Rattle.rows.specs.Taken.{spotLength, rowGood, tagGood, rowSays, GoodRow}
+use Rattle.rows.specs.Taken.{partLength, rowGood, tagGood, rowSays, GoodRow}
 use Rattle.packet.specs.Pieces as pieces
 use Rattle.packet.specs.Judge.{Knowing}
 use Rattle.packet.specs.Verdict.{received}
@@ -34,7 +34,7 @@ use Rattle.laws.proofs.Rows.{rows-good}
 use Rattle.scale.specs.Scales.{scaled, codes, half, isNumber}
 use Rattle.scale.specs.Conversions.{houseOf}
 use Rattle.scale.proofs.Given.{Scaled, scaled-rule, every-code-converts}
-use Rattle.ground.specs.Values.{valueBy, valueIn}
+use Rattle.ground.specs.Values.{valueBy, valueFor}
 use Rattle.ground.specs.declared.Value.{Value}
 use Rattle.ground.specs.declared.Value.the-variants.{Absent, Off, At}
 
@@ -82,7 +82,7 @@ module _ (K : Knowing) (b : List ℕ) (t : ℕ) (i : Item) (knows : K t ≡ true
 
   -- a row of the tag that is not bad is a mark or a number
   module _ (r : Row) (e : r .tag ≡ t) (g : GoodRow K b r) where
-    parts : (eqb (r .kind) (kindFor (Number (i .width) (isMarked (i .sign))) (r .code)) && (eqb (spotLength (r .spot)) (i .width) && (eqb (r .tag) 1 || ltb (r .code) (2 ^ (8 * i .width))))) ≡ true
+    parts : (eqb (r .kind) (kindFor (Number (i .width) (isMarked (i .sign))) (r .code)) && (eqb (partLength (r .part)) (i .width) && (eqb (r .tag) 1 || ltb (r .code) (2 ^ (8 * i .width))))) ≡ true
     unfolding rowGood
     parts = both-right (tagGood (r .tag)) _ (rw (ap (shapeFor K) e ∙ shape-is) at g)
 
@@ -93,7 +93,7 @@ module _ (K : Knowing) (b : List ℕ) (t : ℕ) (i : Item) (knows : K t ≡ true
     no-sum = byEq (r .tag) 1 (λ z. absurd (unscaled-sum i (rw (← z, e) s))) (λ n. ne-eqb _ _ n)
 
     fits : ltb (r .code) (2 ^ (8 * i .width)) ≡ true
-    fits = rw no-sum at (both-right (eqb (spotLength (r .spot)) (i .width)) _ (both-right (eqb (r .kind) (kindFor (Number (i .width) (isMarked (i .sign))) (r .code))) _ parts))
+    fits = rw no-sum at (both-right (eqb (partLength (r .part)) (i .width)) _ (both-right (eqb (r .kind) (kindFor (Number (i .width) (isMarked (i .sign))) (r .code))) _ parts))
 
     mark-says : marked r ≡ true → (r .kind ≡ 2) × (valueBy r ≡ Off)
     unfolding valueBy
@@ -106,8 +106,8 @@ module _ (K : Knowing) (b : List ℕ) (t : ℕ) (i : Item) (knows : K t ≡ true
         let n : isNumber i (r .code) ≡ true = rw (fits, m) in
         (k, rw (k, e, every-code-converts s (r .code) n))
 
-  value-says : (rs : List Row) → Each (GoodRow K b) rs → Says i t rs (valueIn t rs)
-  unfolding valueIn
+  value-says : (rs : List Row) → Each (GoodRow K b) rs → Says i t rs (valueFor t rs)
+  unfolding valueFor
   value-says [] g = nothing tt
   value-says (r ∷ rs) g =
       byEq (r .tag) t
@@ -117,7 +117,7 @@ module _ (K : Knowing) (b : List ℕ) (t : ℕ) (i : Item) (knows : K t ≡ true
       (λ n. rw (ne-eqb _ _ n) (says-after r n (value-says rs (g .1))))
 
 pub present : (K : TagSet) (p : List ℕ) (is : List pieces.Item) → Bytes p → received K p ≡ given is → (t : ℕ) (i : Item) → holds K t ≡ true → Scaled t i
-    → Says i t (rowsOf (holds K) is) (valueIn t (rowsOf (holds K) is))
+    → Says i t (rowsOf (holds K) is) (valueFor t (rowsOf (holds K) is))
 unfolding received
 present K p is by e t i knows s =
     value-says (holds K) p t i knows s (rowsOf (holds K) is) (rows-good (holds K) p is by (passed (good K) _ 1 0 0 e .1))

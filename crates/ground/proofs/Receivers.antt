@@ -19,12 +19,12 @@ use Rattle.packet.specs.Judge.{Knowing}
 use Rattle.packet.specs.Verdict.{received}
 use Rattle.packet.specs.Rows.{rowOf, rowsOf}
 use Rattle.laws.proofs.Receivers.{received-larger}
-use Rattle.ground.specs.Values.{valueIn}
+use Rattle.ground.specs.Values.{valueFor}
 use Rattle.ground.specs.Ground.{heightIn, fullCorner, offsetCorner, cornerIn, fromRows, sensorHeight, frameCentreHeight, cornerOf}
 
 -- the rows of two receivers say the same of a tag on which they agree
-pub same-value : (K K′ : Knowing) (t : ℕ) → K t ≡ K′ t → (is : List Item) → valueIn t (rowsOf K is) ≡ valueIn t (rowsOf K′ is)
-unfolding valueIn rowsOf rowOf shapeFor
+pub same-value : (K K′ : Knowing) (t : ℕ) → K t ≡ K′ t → (is : List Item) → valueFor t (rowsOf K is) ≡ valueFor t (rowsOf K′ is)
+unfolding valueFor rowsOf rowOf shapeFor
 same-value K K′ t e [] = refl
 same-value K K′ t e (i ∷ is) =
     byEq (i .piece .tag) t
@@ -33,7 +33,7 @@ same-value K K′ t e (i ∷ is) =
 
 -- the tags that an answer looks at: rows that say the same of them give the same answer
 abbrev pub LooksAt : {A : Type 0} → List ℕ → (List Row → A) → Type 0
-LooksAt ts f = (rs ss : List Row) → Each (λ t. valueIn t rs ≡ valueIn t ss) ts → f rs ≡ f ss
+LooksAt ts f = (rs ss : List Row) → Each (λ t. valueFor t rs ≡ valueFor t ss) ts → f rs ≡ f ss
 
 pub height-looks : (a b : ℕ) → LooksAt (a ∷ b ∷ []) (heightIn a b)
 unfolding heightIn
@@ -51,7 +51,7 @@ module _ (K K′ : TagSet) (g : good K ≡ true) (g′ : good K′ ≡ true) (wi
   abbrev pub Agree : List ℕ → Type 0
   Agree ts = Each (λ t. holds K t ≡ holds K′ t) ts
 
-  values : (ts : List ℕ) → Agree ts → Each (λ t. valueIn t (rowsOf (holds K) is) ≡ valueIn t (rowsOf (holds K′) is)) ts
+  values : (ts : List ℕ) → Agree ts → Each (λ t. valueFor t (rowsOf (holds K) is) ≡ valueFor t (rowsOf (holds K′) is)) ts
   values [] a = tt
   values (t ∷ ts) a = (same-value (holds K) (holds K′) t (a .0) is, values ts (a .1))
 

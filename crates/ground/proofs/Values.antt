@@ -22,7 +22,7 @@ use Rattle.scale.specs.declared.House.{House}
 use Rattle.scale.specs.declared.ToHouse.{ToHouse}
 use Rattle.scale.proofs.Whole.{sum-fits}
 use Rattle.scale.proofs.Given.{house-small}
-use Rattle.ground.specs.Values.{inHouse, valueSeen, valueBy, valueIn, Small}
+use Rattle.ground.specs.Values.{inHouse, valueSeen, valueBy, valueFor, Small}
 use Rattle.ground.specs.declared.Value.{Value}
 use Rattle.ground.specs.declared.Value.the-variants.{Absent, Off, At}
 
@@ -39,16 +39,16 @@ module _ (r : Row) where
 -- the row numbered n of count rows is the one, or the search goes on after it
 module _ (t : ℕ) (w : List ℕ) (n count : ℕ) where
   module _ (h : n < count) (r : Row) (e : r ≡ rowAt w n) (b : Bool) (p : b ≡ (eqb (r .tag) t && isNumber (rowSays r))) where
-    pub this-row : b ≡ true → valueBy r ≡ valueIn t (rowsIn n (count - n) w)
-    unfolding valueIn
+    pub this-row : b ≡ true → valueBy r ≡ valueFor t (rowsIn n (count - n) w)
+    unfolding valueFor
     this-row q = rw (rows-from w n count h, ← e, ← p, q)
 
-    pub next-row : b ≡ false → valueIn t (rowsIn (n + 1) (count - (n + 1)) w) ≡ valueIn t (rowsIn n (count - n) w)
-    unfolding valueIn
+    pub next-row : b ≡ false → valueFor t (rowsIn (n + 1) (count - (n + 1)) w) ≡ valueFor t (rowsIn n (count - n) w)
+    unfolding valueFor
     next-row q = rw (rows-from w n count h, ← e, ← p, q)
 
-  pub no-row : count ≤ n → valueIn t (rowsIn n (count - n) w) ≡ Absent
-  unfolding valueIn
+  pub no-row : count ≤ n → valueFor t (rowsIn n (count - n) w) ≡ Absent
+  unfolding valueFor
   no-row h = rw (rows-none w n count h)
 
 -- what a row says is small enough to be added
@@ -66,8 +66,8 @@ row-small r = seen-small (rowSays r)
     seen-small (text part) = tt
     seen-small (carried part) = tt
 
-pub value-small : (t : ℕ) (rs : List Row) → Small (valueIn t rs)
-unfolding valueIn
+pub value-small : (t : ℕ) (rs : List Row) → Small (valueFor t rs)
+unfolding valueFor
 value-small t [] = tt
 value-small t (r ∷ rs) =
     byBool (eqb (r .tag) t && isNumber (rowSays r)) (λ e. rw e (row-small r)) (λ e. rw e (value-small t rs))

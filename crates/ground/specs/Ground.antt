@@ -10,7 +10,7 @@ use Rattle.tagset.specs.declared.TagSet.{TagSet}
 use Rattle.rows.specs.Meaning.{Row}
 use Rattle.packet.specs.Verdict.{received}
 use Rattle.packet.specs.Rows.{rowsOf}
-use Rattle.ground.specs.Values.{valueIn}
+use Rattle.ground.specs.Values.{valueFor}
 use Rattle.ground.specs.declared.Value.{Value}
 use Rattle.ground.specs.declared.Value.the-variants.{Absent, Off, At}
 
@@ -29,7 +29,7 @@ heightBy Absent Off = noHeight
 heightBy Absent Absent = noHeight
 
 unfoldable pub heightIn : ℕ → ℕ → List Row → HeightSeen
-heightIn ellipsoid seaLevel rs = heightBy (valueIn ellipsoid rs) (valueIn seaLevel rs)
+heightIn ellipsoid seaLevel rs = heightBy (valueFor ellipsoid rs) (valueFor seaLevel rs)
 
 pub data CornerSeen : Type 0 where
   noCorner : CornerSeen
@@ -58,10 +58,10 @@ sumOf (At a) (At b) = At (a +ℤ b)
 
 -- the coordinate of a full row, and that of a centre row and an offset row
 abbrev pub fullCoordinate : ℕ → List Row → Value
-fullCoordinate full rs = valueIn full rs
+fullCoordinate full rs = valueFor full rs
 
 abbrev pub offsetCoordinate : ℕ → ℕ → List Row → Value
-offsetCoordinate centre offset rs = sumOf (valueIn centre rs) (valueIn offset rs)
+offsetCoordinate centre offset rs = sumOf (valueFor centre rs) (valueFor offset rs)
 
 -- "full rows 80+2k, 81+2k and offset rows 24+2k, 25+2k", with the frame centre's rows 23 and 24
 unfoldable pub fullCorner : ℕ → List Row → CornerSeen

@@ -29,9 +29,9 @@ unfoldable pub valueBy : Row → Value
 valueBy r = valueSeen (r .tag) (rowSays r)
 
 -- the row of a tag, among readings and marks
-unfoldable pub valueIn : ℕ → List Row → Value
-valueIn t [] = Absent
-valueIn t (r ∷ rs) = cond (eqb (r .tag) t && isNumber (rowSays r)) (valueBy r) (valueIn t rs)
+unfoldable pub valueFor : ℕ → List Row → Value
+valueFor t [] = Absent
+valueFor t (r ∷ rs) = cond (eqb (r .tag) t && isNumber (rowSays r)) (valueBy r) (valueFor t rs)
 
 -- a value small enough to be added to another
 abbrev pub Small : Value → Type 0

@@ -8,7 +8,7 @@ ghost use Rattle.refusal.specs.Answer.{given};
 ghost use Rattle.rows.specs.Meaning.{isNumber};
 ghost use Rattle.rows.specs.Taken.{rowSays};
 ghost use Rattle.packet.specs.Rows.{rowsIn};
-ghost use Rattle.ground.specs.Values.{valueBy, valueIn, Small};
+ghost use Rattle.ground.specs.Values.{valueBy, valueFor, Small};
 ghost use Rattle.ground.specs.Ground.{heightIn, pointOf, sumOf, fullCoordinate, offsetCoordinate, fullCorner, offsetCorner, cornerIn, fromRows, sensorHeight, frameCentreHeight, cornerOf};
 ghost use Rattle.ground.specs.Said.{heightSaid, cornerSaid};
 use reader::Reading;
@@ -80,7 +80,7 @@ fn is_present(row: RowWords, tag: u64) -> bool
 
 // The row of a tag, if it is present.
 fn value_in(words: &[u64], count: usize, tag: u64) -> Value
-    ensures { λ r. ⌜ r ≡ valueIn tag (rowsIn 0 count (now (words .entry))) ⌝ }
+    ensures { λ r. ⌜ r ≡ valueFor tag (rowsIn 0 count (now (words .entry))) ⌝ }
 {
     let mut n: usize = 0;
     while n < count {

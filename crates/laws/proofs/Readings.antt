@@ -27,7 +27,7 @@ use Rattle.packet.specs.Judge.{Knowing, Judged, fine, faulty, noVersion, judge}
 use Rattle.packet.specs.Verdict.{placed, verdict}
 use Rattle.packet.specs.Encode.{encode, canonical}
 use Rattle.rows.specs.Meaning.{shapeFor, meaningOf, kindOf, kindFor, codeOf, isNumber, saidBy, Row, markCode}
-use Rattle.rows.specs.Taken.{spotLength, rowSays, GoodRow}
+use Rattle.rows.specs.Taken.{partLength, rowSays, GoodRow}
 use Rattle.rows.proofs.Laws.{kind-seen}
 use Rattle.packet.specs.Rows.{rowOf, rowsOf, bytesAt, pieceOf, piecesOf, tableOf, lentVerdict, Filled, filledBy, readAnswer, tableBy, readTable, rowsIn}
 use Rattle.packet.specs.Rows.{SameRow, SameTable, noRows, oneMore}
@@ -47,7 +47,7 @@ number-row width marked code kind c size a e =
     byBool (marked && eqb code (markCode width)) (λ m. rw (e, m)) (λ m. rw (e, m))
 
 module _ (K : Knowing) (b q : List ℕ) where
-  row-size : (j : Item) → Lies q j → spotLength (rowOf K j .spot) ≡ length (j .piece .value)
+  row-size : (j : Item) → Lies q j → partLength (rowOf K j .part) ≡ length (j .piece .value)
   unfolding rowOf
   row-size j l = digits-mod (j .place) (l .short)
 

@@ -21,7 +21,7 @@ use Rattle.catalogue.specs.declared.Shape.{Shape}
 use Rattle.catalogue.specs.declared.Shape.the-variants.{Text, Number, Absent}
 use Rattle.rows.specs.Meaning.{Row, shapeFor, meaningOf, kindOf, kindFor, codeOf}
 use Rattle.rows.proofs.Laws.{kind-seen, code-seen}
-use Rattle.rows.specs.Taken.{spotPlace, spotLength, tagGood, codeGood, contentGood, rowGood, GoodRow}
+use Rattle.rows.specs.Taken.{partPlace, partLength, tagGood, codeGood, contentGood, rowGood, GoodRow}
 use Rattle.packet.specs.Pieces.{Item, pieces}
 use Rattle.packet.specs.Judge.{Knowing}
 use Rattle.packet.specs.Verdict.{verdict}
@@ -36,7 +36,7 @@ use Rattle.laws.proofs.Sent.{Lies, lies-bytes, SizedFor, number-width, 
 pub record Made (K : Knowing) (b : List ℕ) (r : Row) : Type 0 where
   pub kind : r .kind ≡ kindOf (meaningOf (shapeFor K (r .tag)) (pieceOf K b r .value))
   pub code : (r .tag ≡ 1 → ⊥) → r .code ≡ codeOf (meaningOf (shapeFor K (r .tag)) (pieceOf K b r .value))
-  pub size : spotLength (r .spot) ≡ length (pieceOf K b r .value)
+  pub size : partLength (r .part) ≡ length (pieceOf K b r .value)
 
 -- the checksum has no mark
 sum-unmarked : (K : Knowing) (width : ℕ) (marked : Bool) → shapeFor K 1 ≡ Number width marked → marked ≡ false
@@ -51,21 +51,21 @@ module _ (K : Knowing) (b : List ℕ) (r : Row) where
       → contentGood (Number width marked) (length b) r ≡ true → Made K b r
   unfolding pieceOf
   number-made width marked f k c =
-      let same : spotLength (r .spot) ≡ width = eqb-true _ _ (both-left (eqb (spotLength (r .spot)) width) _ c) in
-      let size : spotLength (r .spot) ≡ length (bytesOf width (r .code)) = same ∙ sym (length-bytesOf width (r .code)) in
+      let same : partLength (r .part) ≡ width = eqb-true _ _ (both-left (eqb (partLength (r .part)) width) _ c) in
+      let size : partLength (r .part) ≡ length (bytesOf width (r .code)) = same ∙ sym (length-bytesOf width (r .code)) in
       byEq (r .tag) 1
       (λ one.
       let plain : marked ≡ false = sum-unmarked K width marked (rw one at f) in
       record { kind = rw f (k ∙ rw plain); code = λ other. absurd (other one); size = rw f size })
       (λ other.
-      let wide : ltb (r .code) (2 ^ (8 * width)) ≡ true = rw (ne-eqb (r .tag) 1 other) at (both-right (eqb (spotLength (r .spot)) width) _ c) in
+      let wide : ltb (r .code) (2 ^ (8 * width)) ≡ true = rw (ne-eqb (r .tag) 1 other) at (both-right (eqb (partLength (r .part)) width) _ c) in
       let fits : r .code < 256 ^ width = rw (bits-bytes width) at (ltb-true (r .code) (2 ^ (8 * width)) wide) in
       let back : valueOf (bytesOf width (r .code)) ≡ r .code = bytes-back width (r .code) fits in
       let kind = k ∙ (ap (kindFor (Number width marked)) (sym back) ∙ sym (kind-seen _ (bytesOf width (r .code)) (Number width marked) _)) in
       record { kind = rw f kind; code = λ z. rw f (sym back ∙ sym (code-seen _ (bytesOf width (r .code)) width marked _)); size = rw f size })
 
-  part-size : leb (spotPlace (r .spot) + spotLength (r .spot)) (length b) ≡ true → spotLength (r .spot) ≡ length (bytesAt b r)
-  part-size e = rw (length-take, length-drop) (omega (arith, leb-true (spotPlace (r .spot) + spotLength (r .spot)) (length b) e))
+  part-size : leb (partPlace (r .part) + partLength (r .part)) (length b) ≡ true → partLength (r .part) ≡ length (bytesAt b r)
+  part-size e = rw (length-take, length-drop) (omega (arith, leb-true (partPlace (r .part) + partLength (r .part)) (length b) e))
 
   -- a row that is not bad is made so
   pub good-made : GoodRow K b r → Made K b r
@@ -108,10 +108,10 @@ good-row K p i by t l s =
     v : List ℕ
     v = i .piece .value
 
-    size : spotLength (i .place * 65536 + length v) ≡ length v
+    size : partLength (i .place * 65536 + length v) ≡ length v
     size = digits-mod (i .place) (l .short)
 
-    part : leb (spotPlace (i .place * 65536 + length v) + spotLength (i .place * 65536 + length v)) (length p) ≡ true
+    part : leb (partPlace (i .place * 65536 + length v) + partLength (i .place * 65536 + length v)) (length p) ≡ true
     part = rw (size, digits-div (i .place) (l .short)) (le-leb _ _ (l .inside))
 
     go : (x : Shape) → shapeFor K (i .piece .tag) ≡ x
@@ -122,7 +122,7 @@ good-row K p i by t l s =
         let coded : codeGood (i .piece .tag) width (valueOf v) ≡ true =
         byBool (eqb (i .piece .tag) 1) (λ e. rw e) (λ e. rw (e, bits-bytes width) (lt-ltb _ _ fits)) in
         let code = code-seen (length v) v width marked (valueOf v) in
-        rw (code, eq-eqb _ _ (kind-seen (length v) v (Number width marked) (valueOf v)), eq-eqb (spotLength (i .place * 65536 + length v)) width (size ∙ w)) coded
+        rw (code, eq-eqb _ _ (kind-seen (length v) v (Number width marked) (valueOf v)), eq-eqb (partLength (i .place * 65536 + length v)) width (size ∙ w)) coded
     go Text f = part
     go Absent f = part
 

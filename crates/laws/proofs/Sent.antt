@@ -25,7 +25,7 @@ use Rattle.rows.proofs.Laws.{code-seen}
 use Rattle.packet.specs.Pieces.{Piece, Item, pieces}
 use Rattle.packet.specs.Judge.{Knowing}
 use Rattle.packet.specs.Verdict.{verdict}
-use Rattle.packet.specs.Rows.{rowOf, rowsOf, Filled, readAnswer, readTable, rowsIn, bytesAt, valueIn, pieceOf, piecesOf}
+use Rattle.packet.specs.Rows.{rowOf, rowsOf, Filled, readAnswer, readTable, rowsIn, bytesAt, rowValue, pieceOf, piecesOf}
 use Rattle.packet.specs.Encode.{encode, canonical}
 use Rattle.packet.specs.Allowed.{headOf, ItemsOf, noMore, another, Formed, pieceAt}
 use Rattle.laws.proofs.Items.{pieceBytes, after-head, after-piece, piece-length}
@@ -87,7 +87,7 @@ pub piece-back : (K : Knowing) (p : List ℕ) (i : Item) → Bytes p → Lies p 
 unfolding pieceOf rowOf
 piece-back K p i by l sized = ap (λ v. record { tag = i .piece .tag; value = v }) (back (shapeFor K (i .piece .tag)) refl)
   where
-    back : (s : Shape) → shapeFor K (i .piece .tag) ≡ s → valueIn s p (rowOf K i) ≡ i .piece .value
+    back : (s : Shape) → shapeFor K (i .piece .tag) ≡ s → rowValue s p (rowOf K i) ≡ i .piece .value
     back (Number width marked) e =
         rw (e, code-seen _ (i .piece .value) width marked (valueOf (i .piece .value)))
         (spelled (i .piece .value) width (valueOf (i .piece .value)) (lies-bytes p i by l) (number-width K (i .piece) width marked sized e) refl)

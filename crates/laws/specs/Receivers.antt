@@ -19,7 +19,7 @@ pub record Only (K K′ : Knowing) (t : ℕ) : Type 0 where
 
 -- the row of the same item, carried: code 0, the same place and length
 abbrev pub carried : Row → Row
-carried r = record { tag = r .tag; kind = carriedKind; code = 0; spot = r .spot }
+carried r = record { tag = r .tag; kind = carriedKind; code = 0; part = r .part }
 
 -- the row that K gives, beside the row that K′ gives to the same item
 pub record SmallerRow (K : Knowing) (r r′ : Row) : Type 0 where

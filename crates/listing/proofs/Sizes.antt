@@ -15,7 +15,7 @@ use Rattle.tagset.specs.Sets.{holds}
 use Rattle.catalogue.specs.Rows.{allTags}
 use Rattle.knowing.specs.Good.{good}
 use Rattle.rows.specs.Meaning.{Row}
-use Rattle.rows.specs.Taken.{spotPlace, spotLength, partOf}
+use Rattle.rows.specs.Taken.{partPlace, partLength, partOf}
 use Rattle.rows.proofs.Laws.{says-carried}
 use Rattle.packet.specs.Pieces.{Item, pieces}
 use Rattle.packet.specs.Judge.{Knowing}
@@ -62,12 +62,12 @@ content-short p r =
     (λ f. rw f (omega arith))
     (λ f. byEq (r .kind) 3
     (λ g. rw (g, length-append) (omega (arith, hex-length (bytesAt p r))))
-    (λ g. rw (says-carried (r .kind) (r .code) (spotLength (r .spot)) (partOf (r .spot)) e f g, length-append) (omega (arith, hex-length (bytesAt p r))))))
+    (λ g. rw (says-carried (r .kind) (r .code) (partLength (r .part)) (partOf (r .part)) e f g, length-append) (omega (arith, hex-length (bytesAt p r))))))
 
 content-most : (p : List ℕ) (r : Row) → length (contentText p r) ≤ 131098
 content-most p r =
-    let l : length (bytesAt p r) ≤ spotLength (r .spot) = rw length-take (omega arith) in
-    let s : spotLength (r .spot) < 65536 = omega arith in
+    let l : length (bytesAt p r) ≤ partLength (r .part) = rw length-take (omega arith) in
+    let s : partLength (r .part) < 65536 = omega arith in
     omega (arith, content-short p r, l, s)
 
 -- the sizes that the code adds up
@@ -84,9 +84,9 @@ module _ (K : Knowing) (p : List ℕ) (small : length p ≤ 8192) where
   line-short : (i : Item) → Lies p i → Tagged (i .piece) → length (lineOf p (rowOf K i)) ≤ 42 + 2 * length (i .piece .value)
   unfolding lineOf rowOf
   line-short i l t =
-      let place : spotPlace (rowOf K i .spot) ≡ i .place = digits-div (i .place) (l .short) in
+      let place : partPlace (rowOf K i .part) ≡ i .place = digits-div (i .place) (l .short) in
       let size : length (bytesAt p (rowOf K i)) ≡ length (i .piece .value) = ap length (bytes-back K p i l) in
-      let front : length (field (spotPlace (rowOf K i .spot))) ≤ 5 = rw place (field-short (i .place) 4 (omega arith) (omega (arith, l .inside))) in
+      let front : length (field (partPlace (rowOf K i .part))) ≤ 5 = rw place (field-short (i .place) 4 (omega arith) (omega (arith, l .inside))) in
       let tag : length (field (i .piece .tag)) ≤ 8 = field-short (i .piece .tag) 7 (omega arith) (omega (arith, t .small)) in
       rw (length-append, length-append, length-append) (omega (arith, front, tag, content-short p (rowOf K i), size))
 

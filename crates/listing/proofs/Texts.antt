@@ -11,7 +11,7 @@ use mir.Val.{SFits, toZ, ofZ}
 use mir.Facts.{toZ-ofZ}
 use Rattle.base.proofs.Parts.{part-lent}
 use Rattle.rows.specs.Meaning.{Meaning, mapMeaning, Row}
-use Rattle.rows.specs.Taken.{spotPlace, spotLength, rowSays}
+use Rattle.rows.specs.Taken.{partPlace, partLength, rowSays}
 use Rattle.rows.specs.declared.Part.{Part}
 use Rattle.rows.proofs.Laws.{says-reading, says-mark, says-text, says-carried}
 use Rattle.packet.specs.Rows.{bytesAt}
@@ -36,8 +36,8 @@ module _ (tag code : ℕ) {h : ToHouse} (e : houseSaid h ≡ toHouse tag code) w
 
 module _ (p : List ℕ) (r : Row) where
   -- a value as the code lends it
-  pub value-lent : hex (take (spotPlace (r .spot) + spotLength (r .spot) - spotPlace (r .spot)) (drop (spotPlace (r .spot)) p)) ≡ hex (bytesAt p r)
-  value-lent = ap hex (part-lent p (spotPlace (r .spot)) (spotLength (r .spot)))
+  pub value-lent : hex (take (partPlace (r .part) + partLength (r .part) - partPlace (r .part)) (drop (partPlace (r .part)) p)) ≡ hex (bytesAt p r)
+  value-lent = ap hex (part-lent p (partPlace (r .part)) (partLength (r .part)))
 
   -- by what the row says
   by-saying : {m : Meaning Part} → rowSays r ≡ m → meaningText (r .tag) (mapMeaning (bytesIn p) m) ≡ contentText p r
@@ -67,21 +67,21 @@ module _ (p : List ℕ) (r : Row) where
       carried-content k = by-saying (says-carried _ _ _ _ n m k)
 
       module _ (h : InPacket p r) where
-        bytes-length : length (hex (bytesAt p r)) ≡ 2 * spotLength (r .spot)
+        bytes-length : length (hex (bytesAt p r)) ≡ 2 * partLength (r .part)
         bytes-length =
-            let l : length (bytesAt p r) ≡ spotLength (r .spot) =
-            length-take-le (spotLength (r .spot)) (drop (spotPlace (r .spot)) p) (rw length-drop (omega arith)) in
+            let l : length (bytesAt p r) ≡ partLength (r .part) =
+            length-take-le (partLength (r .part)) (drop (partPlace (r .part)) p) (rw length-drop (omega arith)) in
             hex-length (bytesAt p r) ∙ ap (λ k. 2 * k) l
 
-        pub text-length : r .kind ≡ 3 → 5 + 2 * spotLength (r .spot) ≡ length (contentText p r)
+        pub text-length : r .kind ≡ 3 → 5 + 2 * partLength (r .part) ≡ length (contentText p r)
         unfolding textWord
         text-length e = ap (λ k. 5 + k) (sym bytes-length) ∙ (sym (length-append textWord (hex (bytesAt p r))) ∙ ap length (text-content e))
 
-        pub carried-length : (r .kind ≡ 3 → ⊥) → 8 + 2 * spotLength (r .spot) ≡ length (contentText p r)
+        pub carried-length : (r .kind ≡ 3 → ⊥) → 8 + 2 * partLength (r .part) ≡ length (contentText p r)
         unfolding carriedWord
         carried-length k = ap (λ k. 8 + k) (sym bytes-length) ∙ (sym (length-append carriedWord (hex (bytesAt p r))) ∙ ap length (carried-content k))
 
-  pub line-length : {place tag content : ℕ} → place ≡ length (decimal (spotPlace (r .spot))) → tag ≡ length (decimal (r .tag))
+  pub line-length : {place tag content : ℕ} → place ≡ length (decimal (partPlace (r .part))) → tag ≡ length (decimal (r .tag))
       → content ≡ length (contentText p r) → place + tag + 2 + content + 1 ≡ length (lineOf p r)
   unfolding lineOf field
   line-length e f g = rw (length-append, length-append, length-append, length-append, length-append) (omega arith)

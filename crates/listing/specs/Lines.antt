@@ -4,7 +4,7 @@ use mathlib.Core.List.{List, [], _∷_, _++_}
 use lib.ListN.{take, drop}
 use Rattle.refusal.specs.Answer.{Answer, given, refused}
 use Rattle.rows.specs.Meaning.{Meaning, reading, mark, text, carried, mapMeaning, Row}
-use Rattle.rows.specs.Taken.{spotPlace, rowSays}
+use Rattle.rows.specs.Taken.{partPlace, rowSays}
 use Rattle.rows.specs.declared.Part.{Part}
 use Rattle.scale.specs.Conversions.{toHouse}
 use Rattle.scale.specs.declared.House.{House}
@@ -62,7 +62,7 @@ contentText p r = meaningText (r .tag) (mapMeaning (bytesIn p) (rowSays r))
 
 -- "Place is the value's."
 unfoldable pub lineOf : List ℕ → Row → List ℕ
-lineOf p r = field (spotPlace (r .spot)) ++ (field (r .tag) ++ (contentText p r ++ newline))
+lineOf p r = field (partPlace (r .part)) ++ (field (r .tag) ++ (contentText p r ++ newline))
 
 unfoldable pub linesOf : List ℕ → List Row → List ℕ
 linesOf p [] = []

@@ -47,7 +47,7 @@ fn content_size(packet: &[u8], row: RowWords) -> usize
     requires { ⌜ InPacket (now packet) row ⌝ }
     ensures { λ r. ⌜ r ≡ length (contentText (now (packet .entry)) row) ⌝ }
 {
-    let bytes = (row.spot % 65536) as usize;
+    let bytes = (row.part % 65536) as usize;
     if row.kind == rows::READING {
         return 7 + number_size(row.tag, row.code);
     }
@@ -64,7 +64,7 @@ fn line_size(packet: &[u8], row: RowWords) -> usize
     requires { ⌜ InPacket (now packet) row ⌝ }
     ensures { λ r. ⌜ r ≡ length (lineOf (now (packet .entry)) row) ⌝ }
 {
-    let place = row.spot / 65536;
+    let place = row.part / 65536;
     let fields = spelling::decimal_size(place) + spelling::decimal_size(row.tag) + 2;
     fields + content_size(packet, row) + 1
 }
@@ -123,9 +123,9 @@ fn put_value(out: &mut [u8], at: usize, packet: &[u8], row: RowWords) -> usize
     requires { ⌜ InPacket (now packet) row × Room (now out) at (hex (bytesAt (now packet) row)) ⌝ }
     ensures { λ r. ⌜ Wrote (now (out .entry)) at (hex (bytesAt (now (packet .entry)) row)) r (now (out .exit)) ⌝ }
 {
-    let spot = row.spot;
-    let place = (spot / 65536) as usize;
-    let end = place + (spot % 65536) as usize;
+    let part = row.part;
+    let place = (part / 65536) as usize;
+    let end = place + (part % 65536) as usize;
     at + spelling::put_hex(out, at, &packet[place..end])
 }
 
@@ -153,7 +153,7 @@ fn put_line(out: &mut [u8], at: usize, packet: &[u8], row: RowWords) -> usize
     requires { ⌜ InPacket (now packet) row × Room (now out) at (lineOf (now packet) row) ⌝ }
     ensures { λ r. ⌜ Wrote (now (out .entry)) at (lineOf (now (packet .entry)) row) r (now (out .exit)) ⌝ }
 {
-    let second = put_field(out, at, row.spot / 65536);
+    let second = put_field(out, at, row.part / 65536);
     let third = put_field(out, second, row.tag);
     let end = put_content(out, third, packet, row);
     put_word(out, end, b"\n")

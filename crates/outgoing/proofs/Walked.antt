@@ -15,7 +15,7 @@ use Rattle.tagset.specs.Sets.{holds, withTag}
 use Rattle.tagset.specs.declared.TagSet.{TagSet}
 use Rattle.catalogue.specs.declared.Shape.{Shape}
 use Rattle.rows.specs.Meaning.{Row, shapeFor}
-use Rattle.rows.specs.Taken.{spotLength, rowGood, tagShown, rowAt}
+use Rattle.rows.specs.Taken.{partLength, rowGood, tagShown, rowAt}
 use Rattle.packet.specs.Judge.{Knowing, Fault, clean, wrong}
 use Rattle.laws.proofs.Tables.{rows-from, rows-none}
 use Rattle.packet.specs.Rows.{rowsIn}
@@ -33,13 +33,13 @@ tag-most t =
 
 pub record Small (r : Row) : Type 0 where
   pub tag : length (tagBytes (r .tag)) ≤ 3
-  pub head : length (lengthBytes (spotLength (r .spot))) ≤ 5
-  pub value : spotLength (r .spot) < 65536
+  pub head : length (lengthBytes (partLength (r .part))) ≤ 5
+  pub value : partLength (r .part) < 65536
 
 pub row-small : (r : Row) → Small r
 row-small r =
-    let v : spotLength (r .spot) < 65536 = omega arith in
-    record { tag = tag-most (r .tag); head = sized (spotLength (r .spot)) (omega (arith, v)) .most; value = v }
+    let v : partLength (r .part) < 65536 = omega arith in
+    record { tag = tag-most (r .tag); head = sized (partLength (r .part)) (omega (arith, v)) .most; value = v }
 
 pub rows-small : (k n : ℕ) (words : List ℕ) → rowsSize (rowsIn k n words) ≤ n * 65543
 unfolding rowsIn rowsSize

@@ -65,7 +65,7 @@ fn rows_right(column: &[u8; 128], known: TagSet, count: usize, words: &[u64], ro
 fn row_size(row: RowWords) -> usize
     ensures { λ r. ⌜ r ≡ rowSize row ⌝ }
 {
-    let length = row.spot % 65536;
+    let length = row.part % 65536;
     ber::tag_size(row.tag) + ber::length_size(length) + length as usize
 }
 
@@ -101,7 +101,7 @@ fn fault_at(column: &[u8; 128], known: TagSet, seen: TagSet, row: RowWords) -> F
     let tag = row.tag;
     if tagset::has(known, tag) {
         let shape = catalogue::shape_at(column, tag);
-        let size = (row.spot % 65536) as usize;
+        let size = (row.part % 65536) as usize;
         let twice = tagset::has(seen, tag);
         return packet::fault_of(Looked {
             shape,
@@ -168,7 +168,7 @@ fn ends_of(count: usize, words: &[u64]) -> Ends
         first: first.tag,
         end,
         last: last.tag,
-        size: (last.spot % 65536) as usize,
+        size: (last.part % 65536) as usize,
     }
 }
 

@@ -2,7 +2,6 @@
 use Prim.Native.Nat.{ℕ}
 use lib.IntN.{ℤ, pos}
 use Rattle.refusal.specs.Answer.{Answer, given, refused}
-use Rattle.tagset.specs.declared.TagSet.{TagSet}
 use Rattle.rows.specs.Meaning.{readingKind, markKind, textKind, carriedKind}
 use Rattle.rows.specs.declared.Filled.{Filled}
 use Rattle.rows.specs.declared.Content.{Content}
@@ -14,10 +13,6 @@ use Rattle.packet.specs.declared.Accepted.{Accepted}
 use Rattle.writer.specs.declared.Written.{Written}
 use Rattle.ground.specs.Ground.{HeightSeen, noHeight, overEllipsoid, overSeaLevel, CornerSeen, noCorner, offTheEarth, on}
 use Rattle.oysterknoll.specs.declared.Answer.{Answer as Struct}
-
--- "two 64-bit words … The first word is bits 0 to 63."
-abbrev pub knowing : ℕ → ℕ → TagSet
-knowing low high = record { low = low; high = high }
 
 abbrev pub refusing : ℕ → ℕ → ℕ → Struct
 refusing n place tag = record { refusal = n; place = place; tag = tag; kind = 0; count = 0; value = pos 0; second = pos 0 }

@@ -15,7 +15,7 @@ use Rattle.catalogue.specs.declared.Shape.{Shape}
 use Rattle.catalogue.specs.declared.Shape.the-variants.{Text, Number, Absent}
 pub use Rattle.rows.specs.Meaning.{Row, meaningOf, kindOf, codeOf, isNumber}
 unfoldable pub use Rattle.rows.specs.Meaning.{shapeFor}
-use Rattle.rows.specs.Taken.{spotPlace, spotLength, rowSays, rowAt}
+use Rattle.rows.specs.Taken.{partPlace, partLength, rowSays, rowAt}
 pub use Rattle.rows.specs.declared.Filled.{Filled}
 use Rattle.packet.specs.Pieces.{Piece, Item}
 use Rattle.packet.specs.Judge.{Knowing}
@@ -24,7 +24,7 @@ use Rattle.packet.specs.Verdict.{verdict}
 abbrev pub rowBy : Shape → Item → Row
 rowBy shape i =
     let m = meaningOf shape (i .piece .value) in
-    record { tag = i .piece .tag; kind = kindOf m; code = codeOf m; spot = i .place * 65536 + length (i .piece .value) }
+    record { tag = i .piece .tag; kind = kindOf m; code = codeOf m; part = i .place * 65536 + length (i .piece .value) }
 
 unfoldable pub rowOf : Knowing → Item → Row
 rowOf K i = rowBy (shapeFor K (i .piece .tag)) i
@@ -35,7 +35,7 @@ rowsOf K (i ∷ is) = rowOf K i ∷ rowsOf K is
 
 unfoldable pub words : List Row → List ℕ
 words [] = []
-words (r ∷ rs) = r .tag ∷ r .kind ∷ r .code ∷ r .spot ∷ words rs
+words (r ∷ rs) = r .tag ∷ r .kind ∷ r .code ∷ r .part ∷ words rs
 
 -- "an accepted packet fills row after row and sets the rest of the first 512 to zero; words beyond stay"
 unfoldable pub tableOf : Knowing → List Item → List ℕ → List ℕ
@@ -67,16 +67,16 @@ rowsIn k (suc n) t = rowAt t k ∷ rowsIn (suc k) n t
 
 -- the bytes that a row points at in a buffer
 abbrev pub bytesAt : List ℕ → Row → List ℕ
-bytesAt b r = take (spotLength (r .spot)) (drop (spotPlace (r .spot)) b)
+bytesAt b r = take (partLength (r .part)) (drop (partPlace (r .part)) b)
 
 -- the value that a row stands for: its code's bytes, or those that it points at
-abbrev pub valueIn : Shape → List ℕ → Row → List ℕ
-valueIn (Number width marked) b r = bytesOf width (r .code)
-valueIn Text b r = bytesAt b r
-valueIn Absent b r = bytesAt b r
+abbrev pub rowValue : Shape → List ℕ → Row → List ℕ
+rowValue (Number width marked) b r = bytesOf width (r .code)
+rowValue Text b r = bytesAt b r
+rowValue Absent b r = bytesAt b r
 
 unfoldable pub pieceOf : Knowing → List ℕ → Row → Piece
-pieceOf K b r = record { tag = r .tag; value = valueIn (shapeFor K (r .tag)) b r }
+pieceOf K b r = record { tag = r .tag; value = rowValue (shapeFor K (r .tag)) b r }
 
 unfoldable pub piecesOf : Knowing → List ℕ → List Row → List Piece
 piecesOf K b [] = []
@@ -88,7 +88,7 @@ pub record SameRow (b c : List ℕ) (r s : Row) : Type 0 where
   pub tag : r .tag ≡ s .tag
   pub kind : r .kind ≡ s .kind
   pub code : (r .tag ≡ 1 → ⊥) → r .code ≡ s .code
-  pub size : spotLength (r .spot) ≡ spotLength (s .spot)
+  pub size : partLength (r .part) ≡ partLength (s .part)
   pub value : isNumber (rowSays r) ≡ false → bytesAt b r ≡ bytesAt c s
 
 pub data SameTable (b c : List ℕ) : List Row → List Row → Type 0 where

@@ -32,7 +32,7 @@ clear-none t k e h =
     rw none
 
 -- the four stores of a row
-pub row-stored : (t : List ℕ) (n : ℕ) (r : Row) → set (set (set (set t (4 * n) (r .tag)) (4 * n + 1) (r .kind)) (4 * n + 2) (r .code)) (4 * n + 3) (r .spot) ≡ putRow t n r
+pub row-stored : (t : List ℕ) (n : ℕ) (r : Row) → set (set (set (set t (4 * n) (r .tag)) (4 * n + 1) (r .kind)) (4 * n + 2) (r .code)) (4 * n + 3) (r .part) ≡ putRow t n r
 row-stored t n r =
     let w : ℕ = 4 * n in
     let e1 : w + 1 ≡ suc w = omega arith in

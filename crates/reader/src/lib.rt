@@ -69,7 +69,7 @@ fn row_of(packet: &[u8], column: &[u8; 128], known: TagSet, item: Header) -> Row
         tag: item.tag,
         kind: rows::kind_of(shape, code),
         code,
-        spot: place * 65536 + size,
+        part: place * 65536 + size,
     }
 }
 
@@ -82,7 +82,7 @@ fn put_row(table: &mut [u64], n: usize, row: RowWords)
     table[at] = row.tag;
     table[at + 1] = row.kind;
     table[at + 2] = row.code;
-    table[at + 3] = row.spot;
+    table[at + 3] = row.part;
 }
 
 // Zeros from a word up to word 512.

@@ -18,7 +18,7 @@ use Rattle.catalogue.proofs.Columns.{number-width}
 use Rattle.rows.specs.Meaning.{Row}
 use Rattle.rows.specs.declared.Row.{Row as Record}
 use Rattle.rows.specs.declared.Content.{Content}
-use Rattle.records.specs.Images.{widthBy, widthOf, saysFor, rowSaying, imageOf, none, putImage, imagesInto, fitting, tableOf}
+use Rattle.records.specs.Images.{widthBy, widthOf, saysFor, rowSaying, imageOf, none, putImage, imagesInto, fitting, imageTable}
 
 known-by : (i : Item) (b : Bool) → eqb (i .width) 0 ≡ b → i .width ≡ widthBy (cond b shape.Text (shape.Number (i .width) (isMarked (i .sign))))
 known-by i true e = eqb-true _ 0 e
@@ -46,7 +46,7 @@ image-by r c e = ap (λ x. rowSaying (r .tag) (saysFor (r .tag) x)) (sym e)
 
 -- the four stores, one after the other
 pub puts : (t : List ℕ) (n : ℕ) (r s : Row) → r ≡ s → set (set (set (set t (4 * n) (r .tag)) (4 * n + 1) (r .kind)) (4 * n + 2) (r .code)) (4 * n + 3)
-    (r .spot) ≡ putImage t n s
+    (r .part) ≡ putImage t n s
 puts t n r s e =
     let one : 4 * n + 1 ≡ suc (4 * n) = omega arith in
     let two : 4 * n + 2 ≡ suc (suc (4 * n)) = omega arith in
@@ -62,6 +62,6 @@ pub images-more : (n : ℕ) (rs : List Record) (t : List ℕ) → putImage (imag
 unfolding imagesInto
 images-more n rs t = refl
 
-pub table-is : (rs : List Record) → imagesInto (fitting (length rs)) rs (replicate 512 0) ≡ tableOf rs
-unfolding tableOf
+pub table-is : (rs : List Record) → imagesInto (fitting (length rs)) rs (replicate 512 0) ≡ imageTable rs
+unfolding imageTable
 table-is rs = refl

@@ -18,7 +18,7 @@ use Rattle.base.specs.Determined.{Determined, Says}
 use Rattle.writer.specs.Writes.{Writes}
 use Rattle.writer.specs.declared.Writing.{Writing}
 use Rattle.writer.proofs.Answers.{write-apart}
-use Rattle.records.specs.Images.{tableOf}
+use Rattle.records.specs.Images.{imageTable}
 use Rattle.records.proofs.write_records as write-records
 use Rattle.records.proofs.write_three.Kinds as write-three-kinds
 use Rattle.records.proofs.write_three.Reads as write-three-reads
@@ -26,7 +26,7 @@ use Rattle.records.proofs.write_three.Reads as write-three-reads
 -- the contract of `write_records`
 module _ (κs : Lfts 3) (a : Args write-records.signature κs) where
   abbrev pub Wrote : Writing → AtExit write-records.ended κs → Type 0
-  Wrote z e = let rs = a .1 .0 .now in Writes (a .0) (length rs) (tableOf rs) (a .1 .1 .0 .now) (a .1 .1 .1 .0 .now) z (e .1 .1 .1 .0 .now)
+  Wrote z e = let rs = a .1 .0 .now in Writes (a .0) (length rs) (imageTable rs) (a .1 .1 .0 .now) (a .1 .1 .1 .0 .now) z (e .1 .1 .1 .0 .now)
 
   pub write-records-determined : (z z′ : Writing) (e e′ : AtExit write-records.ended κs) → Wrote z e → Wrote z′ e′
       → (z ≡ z′) × (e .1 .1 .1 .0 .now ≡ e′ .1 .1 .1 .0 .now)

@@ -23,12 +23,12 @@ use Rattle.packet.specs.Judge.{Knowing}
 use Rattle.packet.specs.Rows.{rowsIn}
 use Rattle.outgoing.specs.Outgoing.{rightRows, outgoing}
 use Rattle.writer.specs.Writes.{written}
-use Rattle.records.specs.Images.{saysFor, partIn, holdable, noKind, rowSaying, imageOf, none, tableOf}
+use Rattle.records.specs.Images.{saysFor, partIn, holdable, noKind, rowSaying, imageOf, none, imageTable}
 use Rattle.records.proofs.Same.{table-at, count-fits}
 
 -- "a list of over 128 records gets 16"
 pub too-many : (K : TagSet) (rs : List Record) (b : List ℕ) (room : ℕ) → good K ≡ true → 128 < length rs
-    → written K (length rs) (tableOf rs) b room ≡ refused 16 0 0
+    → written K (length rs) (imageTable rs) b room ≡ refused 16 0 0
 unfolding written outgoing
 too-many K rs b room s h = rw (s, lt-leb _ _ h)
 
@@ -77,17 +77,17 @@ module _ (K : TagSet) (rs : List Record) (b : List ℕ) (room k : ℕ) (right : 
     (earlier : (j : ℕ) → j < k → GoodRow (holds K) b (imageOf (getD rs j none))) where
   -- of up to 128 records, the first whose image is bad
   pub first-bad : rowGood (shapeFor (holds K) (imageOf (getD rs k none) .tag)) (length b) (imageOf (getD rs k none)) ≡ false
-      → written K (length rs) (tableOf rs) b room ≡ refused 17 k (tagShown (getD rs k none .tag))
+      → written K (length rs) (imageTable rs) b room ≡ refused 17 k (tagShown (getD rs k none .tag))
   unfolding written outgoing
   first-bad f =
-      let at : (j : ℕ) → j ≤ k → rowAt (tableOf rs) j ≡ imageOf (getD rs j none) = λ j l. table-at rs few j (omega (arith, l, one)) in
-      let tag : rowAt (tableOf rs) k .tag ≡ getD rs k none .tag = ap (λ (x : Row). x .tag) (at k (omega arith)) ∙ image-tag (getD rs k none) in
-      let before : (j : ℕ) → 0 ≤ j → j < k → GoodRow (holds K) b (rowAt (tableOf rs) j) = λ j _ l. rw (at j (omega (arith, l))) (earlier j l) in
-      let bad : rowGood (shapeFor (holds K) (rowAt (tableOf rs) k .tag)) (length b) (rowAt (tableOf rs) k) ≡ false = rw (at k (omega arith)) f in
-      rw (right, count-fits rs few, first-bad-row (holds K) b 0 (length rs) (tableOf rs) k (omega arith) (omega (arith, one)) before bad, tag)
+      let at : (j : ℕ) → j ≤ k → rowAt (imageTable rs) j ≡ imageOf (getD rs j none) = λ j l. table-at rs few j (omega (arith, l, one)) in
+      let tag : rowAt (imageTable rs) k .tag ≡ getD rs k none .tag = ap (λ (x : Row). x .tag) (at k (omega arith)) ∙ image-tag (getD rs k none) in
+      let before : (j : ℕ) → 0 ≤ j → j < k → GoodRow (holds K) b (rowAt (imageTable rs) j) = λ j _ l. rw (at j (omega (arith, l))) (earlier j l) in
+      let bad : rowGood (shapeFor (holds K) (rowAt (imageTable rs) k .tag)) (length b) (rowAt (imageTable rs) k) ≡ false = rw (at k (omega arith)) f in
+      rw (right, count-fits rs few, first-bad-row (holds K) b 0 (length rs) (imageTable rs) k (omega arith) (omega (arith, one)) before bad, tag)
 
   -- and so one that no word can hold
   pub unheld-refused : holdable (partIn (saysFor (getD rs k none .tag) (getD rs k none .content))) ≡ false
-      → written K (length rs) (tableOf rs) b room ≡ refused 17 k (tagShown (getD rs k none .tag))
+      → written K (length rs) (imageTable rs) b room ≡ refused 17 k (tagShown (getD rs k none .tag))
   unfolding imageOf
   unheld-refused e = first-bad (unheld-bad _ (length b) (getD rs k none .tag) (saysFor (getD rs k none .tag) (getD rs k none .content)) e)

@@ -22,7 +22,7 @@ use Rattle.catalogue.specs.Shapes.{shapeOf}
 use Rattle.catalogue.specs.declared.Shape.{Shape}
 use Rattle.catalogue.specs.declared.Shape.the-variants.{Text, Number, Absent}
 use Rattle.rows.specs.Meaning.{Row, shapeFor, kindFor, markCode, readingKind, markKind, textKind, carriedKind, saidBy}
-use Rattle.rows.specs.Taken.{spotLength, tagGood, codeGood, contentGood, rowGood, countGood, tagShown, rowAt, partOf, contentOf, rowTakenAt, GoodRow}
+use Rattle.rows.specs.Taken.{partLength, tagGood, codeGood, contentGood, rowGood, countGood, tagShown, rowAt, partOf, contentOf, rowTakenAt, GoodRow}
 use Rattle.rows.specs.declared.Row.{Row as Record}
 use Rattle.rows.specs.declared.Part.{Part}
 use Rattle.packet.specs.Judge.{Knowing}
@@ -32,13 +32,13 @@ use Rattle.outgoing.proofs.Stages.{good-all}
 use Rattle.rows.proofs.Laws.{count-good}
 use Rattle.writer.specs.declared.Writing.{Writing}
 use Rattle.writer.specs.Writes.{Writes, roomy, written, writtenBy, outputBy, writeAnswer, writeOutput}
-use Rattle.records.specs.Images.{widthBy, widthOf, saysFor, rowWith, rowSaying, imageOf, none, putImage, imagesInto, fitting, tableOf}
+use Rattle.records.specs.Images.{widthBy, widthOf, saysFor, rowWith, rowSaying, imageOf, none, putImage, imagesInto, fitting, imageTable}
 use Rattle.records.specs.TakenOut.{Words, TakenOut, taken, takenFrom}
 use Rattle.records.proofs.Laws.{width-small}
 
 -- a row with another fourth word
-abbrev placed : Row → ℕ → Row
-placed r spot = record { tag = r .tag; kind = r .kind; code = r .code; spot = spot }
+abbrev withPart : Row → ℕ → Row
+withPart r word = record { tag = r .tag; kind = r .kind; code = r .code; part = word }
 
 known-shape : (K : Knowing) (t width : ℕ) (marked : Bool) → shapeFor K t ≡ Number width marked → widthOf t ≡ width
 unfolding shapeFor
@@ -48,27 +48,27 @@ known-shape K t width marked e =
     (λ k. let f : Absent ≡ Number width marked = rw k at e in never (cc))
 
 words-of : {t t′ k k′ c c′ s s′ : ℕ} → t ≡ t′ → k ≡ k′ → c ≡ c′ → s ≡ s′
-    → _≡_ {A = Row} (record { tag = t; kind = k; code = c; spot = s }) (record { tag = t′; kind = k′; code = c′; spot = s′ })
-words-of o p q h i = record { tag = o i; kind = p i; code = q i; spot = h i }
+    → _≡_ {A = Row} (record { tag = t; kind = k; code = c; part = s }) (record { tag = t′; kind = k′; code = c′; part = s′ })
+words-of o p q h i = record { tag = o i; kind = p i; code = q i; part = h i }
 
 -- ---- the image of a row that is not bad
 module _ (r : Row) where
   -- by what its kind says
   abbrev said : ℕ → Row
-  said kind = rowSaying (r .tag) (saysFor (r .tag) (contentOf (saidBy kind (r .code) (spotLength (r .spot)) (partOf (r .spot)))))
+  said kind = rowSaying (r .tag) (saysFor (r .tag) (contentOf (saidBy kind (r .code) (partLength (r .part)) (partOf (r .part)))))
 
   image-said : (kind : ℕ) → r .kind ≡ kind → imageOf (taken r) ≡ said kind
   unfolding imageOf
   image-said kind e = ap said e
 
   -- words put together that are its own, but for the fourth
-  row-is : (kind code : ℕ) (part : Part) (spot : ℕ) → kind ≡ r .kind → code ≡ r .code → part .place < 2 ^ 48 → part .length < 65536
-      → part .place * 65536 + part .length ≡ spot → rowWith (r .tag) kind code part ≡ placed r spot
-  row-is kind code part spot k c p l e = rw (lt-ltb (part .place) (2 ^ 48) p, lt-ltb (part .length) 65536 l) (words-of refl k c e)
+  row-is : (kind code : ℕ) (part : Part) (word : ℕ) → kind ≡ r .kind → code ≡ r .code → part .place < 2 ^ 48 → part .length < 65536
+      → part .place * 65536 + part .length ≡ word → rowWith (r .tag) kind code part ≡ withPart r word
+  row-is kind code part word k c p l e = rw (lt-ltb (part .place) (2 ^ 48) p, lt-ltb (part .length) 65536 l) (words-of refl k c e)
 
   -- a number's is the row with place 0
   number-image : (width : ℕ) (marked : Bool) → widthOf (r .tag) ≡ width → width ≤ 8 → r .kind ≡ kindFor (Number width marked) (r .code)
-      → imageOf (taken r) ≡ placed r width
+      → imageOf (taken r) ≡ withPart r width
   number-image width marked w small k =
       byBool (marked && eqb (r .code) (markCode width))
       (λ m.
@@ -79,16 +79,16 @@ module _ (r : Row) where
       image-said readingKind one ∙ number readingKind _ (sym one) refl)
     where
       number : (kind code : ℕ) → kind ≡ r .kind → code ≡ r .code
-          → rowWith (r .tag) kind code (record { place = 0; length = widthOf (r .tag) }) ≡ placed r width
+          → rowWith (r .tag) kind code (record { place = 0; length = widthOf (r .tag) }) ≡ withPart r width
       number kind code k c =
           row-is kind code (record { place = 0; length = widthOf (r .tag) }) width k c (omega arith) (omega (arith, w, small)) (omega (arith, w))
 
   -- what a fourth word says is put together again
-  part-image : (kind : ℕ) → said kind ≡ rowWith (r .tag) kind 0 (partOf (r .spot)) → r .spot < 2 ^ 64 → r .kind ≡ kind → r .code ≡ 0
+  part-image : (kind : ℕ) → said kind ≡ rowWith (r .tag) kind 0 (partOf (r .part)) → r .part < 2 ^ 64 → r .kind ≡ kind → r .code ≡ 0
       → imageOf (taken r) ≡ r
   part-image kind e h k c =
       image-said kind k
-      ∙ (e ∙ row-is kind 0 (partOf (r .spot)) (r .spot) (sym k) (sym c) (omega (arith, h)) (omega arith) (div-add-mod' (r .spot) 65536))
+      ∙ (e ∙ row-is kind 0 (partOf (r .part)) (r .part) (sym k) (sym c) (omega (arith, h)) (omega arith) (div-add-mod' (r .part) 65536))
 
 -- what it is not to be bad, part by part
 record Fine (s : Shape) (room : ℕ) (r : Row) : Type 0 where
@@ -117,22 +117,22 @@ record Alike (K : Knowing) (b : List ℕ) (r s : Row) : Type 0 where
 
 module _ (K : Knowing) (b : List ℕ) (r : Row) where
   number-alike : (width : ℕ) (marked : Bool) → shapeFor K (r .tag) ≡ Number width marked → width ≤ 8 → Fine (Number width marked) (length b) r
-      → Alike K b r (placed r width)
+      → Alike K b r (withPart r width)
   unfolding pieceOf
   number-alike width marked f small g =
-      let size : spotLength width ≡ width = omega (arith, small) in
-      let coded : codeGood (r .tag) width (r .code) ≡ true = both-right (eqb (spotLength (r .spot)) width) _ (g .content) in
-      let g′ : Fine (Number width marked) (length b) (placed r width) = record {
+      let size : partLength width ≡ width = omega (arith, small) in
+      let coded : codeGood (r .tag) width (r .code) ≡ true = both-right (eqb (partLength (r .part)) width) _ (g .content) in
+      let g′ : Fine (Number width marked) (length b) (withPart r width) = record {
         tagged = g .tagged;
         kind = g .kind;
         content = both-true _ _ (eq-eqb _ _ size) coded;
       } in
-      record { kept = rw f (fine-good (Number width marked) (length b) (placed r width) g′); piece = rw f }
+      record { kept = rw f (fine-good (Number width marked) (length b) (withPart r width) g′); piece = rw f }
 
   same-alike : (s : Row) → s ≡ r → GoodRow K b r → Alike K b r s
   same-alike s e g = record { kept = rw e g; piece = ap (pieceOf K b) e }
 
-  alike : r .spot < 2 ^ 64 → GoodRow K b r → Alike K b r (imageOf (taken r))
+  alike : r .part < 2 ^ 64 → GoodRow K b r → Alike K b r (imageOf (taken r))
   alike h g = go (shapeFor K (r .tag)) refl (fine (shapeFor K (r .tag)) (length b) r g)
     where
       go : (s : Shape) → shapeFor K (r .tag) ≡ s → Fine s (length b) r → Alike K b r (imageOf (taken r))
@@ -149,7 +149,7 @@ unfolding imagesInto
 length-images zero rs t = refl
 length-images (suc n) rs t =
     let r = imageOf (getD rs n none) in
-    length-sets (imagesInto n rs t) (4 * n) (r .tag ∷ r .kind ∷ r .code ∷ r .spot ∷ []) ∙ length-images n rs t
+    length-sets (imagesInto n rs t) (4 * n) (r .tag ∷ r .kind ∷ r .code ∷ r .part ∷ []) ∙ length-images n rs t
 
 -- words stored one after the other: those before them stay, and each is there
 stored-before : (vs l : List ℕ) (i j : ℕ) → j < i → getD (sets l i vs) j 0 ≡ getD l j 0
@@ -168,7 +168,7 @@ stored-at (v ∷ vs) l i (suc k) h m =
 
 module _ (t : List ℕ) (n : ℕ) (r : Row) where
   abbrev four : List ℕ
-  four = r .tag ∷ r .kind ∷ r .code ∷ r .spot ∷ []
+  four = r .tag ∷ r .kind ∷ r .code ∷ r .part ∷ []
 
   put-other : (k : ℕ) → k < n → rowAt (putImage t n r) k ≡ rowAt t k
   unfolding rowAt
@@ -199,15 +199,15 @@ image-at (suc n) rs t h k l =
 fitting-all : (n : ℕ) → n ≤ 128 → fitting n ≡ n
 fitting-all n h = byLt n 128 (λ l. rw (lt-ltb n 128 l)) (λ l. rw (le-ltb n 128 l) (omega (arith, h, l)))
 
-length-table : (rs : List Record) → length (tableOf rs) ≡ 512
-unfolding tableOf
+length-table : (rs : List Record) → length (imageTable rs) ≡ 512
+unfolding imageTable
 length-table rs = length-images (fitting (length rs)) rs (replicate 512 0)
 
-pub count-fits : (rs : List Record) → length rs ≤ 128 → countGood (length rs) (length (tableOf rs)) ≡ true
-count-fits rs h = both-true _ _ (le-leb _ _ h) (le-leb (4 * length rs) (length (tableOf rs)) (rw (length-table rs) (omega (arith, h))))
+pub count-fits : (rs : List Record) → length rs ≤ 128 → countGood (length rs) (length (imageTable rs)) ≡ true
+count-fits rs h = both-true _ _ (le-leb _ _ h) (le-leb (4 * length rs) (length (imageTable rs)) (rw (length-table rs) (omega (arith, h))))
 
-pub table-at : (rs : List Record) → length rs ≤ 128 → (k : ℕ) → k < length rs → rowAt (tableOf rs) k ≡ imageOf (getD rs k none)
-unfolding tableOf
+pub table-at : (rs : List Record) → length rs ≤ 128 → (k : ℕ) → k < length rs → rowAt (imageTable rs) k ≡ imageOf (getD rs k none)
+unfolding imageTable
 table-at rs h k l =
     let all = fitting-all (length rs) h in
     image-at (fitting (length rs)) rs (replicate 512 0) (rw all (omega (arith, h))) k (rw all l)
@@ -240,7 +240,7 @@ module _ (K : Knowing) (b : List ℕ) where
   same-pieces k zero t u h = refl
   same-pieces k (suc n) t u h = rw (h k (omega arith) (omega arith), same-pieces (suc k) n t u (λ j l m. h j (omega (arith, l)) (omega (arith, m))))
 
-spot-fits : (w : List ℕ) → Words w → (k : ℕ) → rowAt w k .spot < 2 ^ 64
+spot-fits : (w : List ℕ) → Words w → (k : ℕ) → rowAt w k .part < 2 ^ 64
 unfolding rowAt
 spot-fits w h k = h .word (4 * k + 3)
 
@@ -259,39 +259,39 @@ module _ (K : TagSet) (w b : List ℕ) (rs : List Record) (h : Words w) (p : Tak
       (λ no. (omega (arith, no), omega (arith, no)))
       (λ some. count-good (length rs) (length w) (all-took 0 (omega (arith, some)) .counted))
 
-  alike-at : (k : ℕ) → k < length rs → Alike (holds K) b (rowAt w k) (rowAt (tableOf rs) k)
+  alike-at : (k : ℕ) → k < length rs → Alike (holds K) b (rowAt w k) (rowAt (imageTable rs) k)
   alike-at k l =
       let t = all-took k l in
       subst (Alike (holds K) b (rowAt w k)) (ap imageOf (t .is) ∙ sym (table-at rs (few .0) k l)) (alike (holds K) b (rowAt w k) (spot-fits w h k) (t .kept))
 
-  table-good : Each (GoodRow (holds K) b) (rowsIn 0 (length rs) (tableOf rs))
-  table-good = each-good (holds K) b 0 (length rs) (tableOf rs) (λ j l m. alike-at j (omega (arith, m)) .kept)
+  table-good : Each (GoodRow (holds K) b) (rowsIn 0 (length rs) (imageTable rs))
+  table-good = each-good (holds K) b 0 (length rs) (imageTable rs) (λ j l m. alike-at j (omega (arith, m)) .kept)
 
   words-good : Each (GoodRow (holds K) b) (rowsIn 0 (length rs) w)
   words-good = each-good (holds K) b 0 (length rs) w (λ j l m. all-took j (omega (arith, m)) .kept)
 
-  pieces-are : piecesOf (holds K) b (rowsIn 0 (length rs) (tableOf rs)) ≡ piecesOf (holds K) b (rowsIn 0 (length rs) w)
-  pieces-are = same-pieces (holds K) b 0 (length rs) (tableOf rs) w (λ j l m. alike-at j (omega (arith, m)) .piece)
+  pieces-are : piecesOf (holds K) b (rowsIn 0 (length rs) (imageTable rs)) ≡ piecesOf (holds K) b (rowsIn 0 (length rs) w)
+  pieces-are = same-pieces (holds K) b 0 (length rs) (imageTable rs) w (λ j l m. alike-at j (omega (arith, m)) .piece)
 
-  outgoing-same : outgoing K (length rs) (tableOf rs) b ≡ outgoing K (length rs) w b
+  outgoing-same : outgoing K (length rs) (imageTable rs) b ≡ outgoing K (length rs) w b
   unfolding outgoing
   outgoing-same =
       let m : countGood (length rs) (length w) ≡ true = both-true _ _ (le-leb _ _ (few .0)) (le-leb _ _ (few .1)) in
-      let ours = good-all (holds K) b 0 (rowsIn 0 (length rs) (tableOf rs)) table-good in
+      let ours = good-all (holds K) b 0 (rowsIn 0 (length rs) (imageTable rs)) table-good in
       let theirs = good-all (holds K) b 0 (rowsIn 0 (length rs) w) words-good in
       rw (count-fits rs (few .0), m, ours, theirs, pieces-are)
 
   -- the same packet or the same refusal, for any room
-  pub records-written : (room : ℕ) → written K (length rs) (tableOf rs) b room ≡ written K (length rs) w b room
+  pub records-written : (room : ℕ) → written K (length rs) (imageTable rs) b room ≡ written K (length rs) w b room
   unfolding written
   records-written room = ap (λ a. then a (roomy room)) outgoing-same
 
   -- so one contract holds of an outcome where the other does
-  pub records-then-words : (o o′ : List ℕ) (z : Writing) → Writes K (length rs) (tableOf rs) b o z o′ → Writes K (length rs) w b o z o′
-  records-then-words o o′ z = written-alike K (length rs) (tableOf rs) w b o o′ z (records-written (length o))
+  pub records-then-words : (o o′ : List ℕ) (z : Writing) → Writes K (length rs) (imageTable rs) b o z o′ → Writes K (length rs) w b o z o′
+  records-then-words o o′ z = written-alike K (length rs) (imageTable rs) w b o o′ z (records-written (length o))
 
-  pub words-then-records : (o o′ : List ℕ) (z : Writing) → Writes K (length rs) w b o z o′ → Writes K (length rs) (tableOf rs) b o z o′
-  words-then-records o o′ z = written-alike K (length rs) w (tableOf rs) b o o′ z (sym (records-written (length o)))
+  pub words-then-records : (o o′ : List ℕ) (z : Writing) → Writes K (length rs) w b o z o′ → Writes K (length rs) (imageTable rs) b o z o′
+  words-then-records o o′ z = written-alike K (length rs) w (imageTable rs) b o o′ z (sym (records-written (length o)))
 
 -- ---- good rows are taken out
 taken-length : (k n : ℕ) (w : List ℕ) → length (takenFrom k n w) ≡ n

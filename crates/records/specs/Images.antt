@@ -48,8 +48,8 @@ noKind = 0
 abbrev pub rowWith : ℕ → ℕ → ℕ → Part → Row
 rowWith tag kind code part =
     cond (holdable part)
-    (record { tag = tag; kind = kind; code = code; spot = part .place * 65536 + part .length })
-    (record { tag = tag; kind = noKind; code = 0; spot = 0 })
+    (record { tag = tag; kind = kind; code = code; part = part .place * 65536 + part .length })
+    (record { tag = tag; kind = noKind; code = 0; part = 0 })
 
 -- the row of what is said of an item
 abbrev pub rowSaying : ℕ → Meaning Part → Row
@@ -64,7 +64,7 @@ none = record { tag = 0; content = content.Mark }
 
 -- the table t with the images of the records 0 to n - 1 put in, row after row
 abbrev pub putImage : List ℕ → ℕ → Row → List ℕ
-putImage t n r = sets t (4 * n) (r .tag ∷ r .kind ∷ r .code ∷ r .spot ∷ [])
+putImage t n r = sets t (4 * n) (r .tag ∷ r .kind ∷ r .code ∷ r .part ∷ [])
 
 unfoldable pub imagesInto : ℕ → List Record → List ℕ → List ℕ
 imagesInto zero rs t = t
@@ -74,5 +74,5 @@ imagesInto (suc n) rs t = putImage (imagesInto n rs t) n (imageOf (getD rs n non
 abbrev pub fitting : ℕ → ℕ
 fitting n = cond (ltb n 128) n 128
 
-unfoldable pub tableOf : List Record → List ℕ
-tableOf rs = imagesInto (fitting (length rs)) rs (replicate 512 0)
+unfoldable pub imageTable : List Record → List ℕ
+imageTable rs = imagesInto (fitting (length rs)) rs (replicate 512 0)

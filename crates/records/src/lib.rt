@@ -5,7 +5,7 @@ ghost use Prim.Native.Nat.{_<_, _≤_};
 ghost use lib.ListN.{length, getD, replicate};
 ghost use Rattle.writer.specs.Writes.{Writes};
 ghost use Rattle.rows.specs.Meaning.{markCode};
-ghost use Rattle.records.specs.Images.{widthOf, rowWith, imageOf, none, putImage, imagesInto, fitting, tableOf};
+ghost use Rattle.records.specs.Images.{widthOf, rowWith, imageOf, none, putImage, imagesInto, fitting, imageTable};
 use catalogue::Found;
 use rows::Content;
 use rows::Part;
@@ -79,7 +79,7 @@ fn row_with(tag: u64, kind: u64, code: u64, part: Part) -> RowWords
                 tag,
                 kind,
                 code,
-                spot: place as u64 * 65536 + length as u64,
+                part: place as u64 * 65536 + length as u64,
             };
         }
     }
@@ -87,7 +87,7 @@ fn row_with(tag: u64, kind: u64, code: u64, part: Part) -> RowWords
         tag,
         kind: NO_KIND,
         code: 0,
-        spot: 0,
+        part: 0,
     }
 }
 
@@ -121,7 +121,7 @@ fn put_record(table: [u64; 512], n: usize, row: Row) -> [u64; 512]
     t[4 * n] = words.tag;
     t[4 * n + 1] = words.kind;
     t[4 * n + 2] = words.code;
-    t[4 * n + 3] = words.spot;
+    t[4 * n + 3] = words.part;
     t
 }
 
@@ -153,7 +153,7 @@ fn write_table(
 
 // Writes the records as a packet, with the buffer that text and carried records point into.
 pub fn write_records(known: TagSet, records: &[Row], buffer: &[u8], out: &mut [u8]) -> Writing
-    ensures { λ r. ⌜ Writes known (length (now (records .entry))) (tableOf (now (records .entry)))
+    ensures { λ r. ⌜ Writes known (length (now (records .entry))) (imageTable (now (records .entry)))
         (now (buffer .entry)) (now (out .entry)) r (now (out .exit)) ⌝ }
 {
     let c = count(records);
@@ -164,7 +164,7 @@ pub fn write_records(known: TagSet, records: &[Row], buffer: &[u8], out: &mut [u
 
 // The same for an array of three, whose callers lend no records themselves.
 pub fn write_three(known: TagSet, records: [Row; 3], buffer: &[u8], out: &mut [u8]) -> Writing
-    ensures { λ r. ⌜ Writes known (length records) (tableOf records) (now (buffer .entry)) (now (out .entry)) r (now (out .exit)) ⌝ }
+    ensures { λ r. ⌜ Writes known (length records) (imageTable records) (now (buffer .entry)) (now (out .entry)) r (now (out .exit)) ⌝ }
 {
     write_records(known, &records, buffer, out)
 }

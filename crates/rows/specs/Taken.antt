@@ -20,19 +20,19 @@ use Rattle.rows.specs.declared.Taken.{Taken}
 use Rattle.rows.specs.declared.Taken.the-variants.{Is, Refused}
 
 -- the fourth word: place × 65,536 + length
-abbrev pub spotPlace : ℕ → ℕ
-spotPlace w = w / 65536
+abbrev pub partPlace : ℕ → ℕ
+partPlace w = w / 65536
 
-abbrev pub spotLength : ℕ → ℕ
-spotLength w = w % 65536
+abbrev pub partLength : ℕ → ℕ
+partLength w = w % 65536
 
 -- where text or carried bytes stand
 abbrev pub partOf : ℕ → Part
-partOf spot = record { place = spotPlace spot; length = spotLength spot }
+partOf part = record { place = partPlace part; length = partLength part }
 
 -- what a row says that its item holds
 abbrev pub rowSays : Row → Meaning Part
-rowSays r = saidBy (r .kind) (r .code) (spotLength (r .spot)) (partOf (r .spot))
+rowSays r = saidBy (r .kind) (r .code) (partLength (r .part)) (partOf (r .part))
 
 -- "its tag is not 1 to 2,097,151"
 abbrev pub tagGood : ℕ → Bool
@@ -40,16 +40,16 @@ tagGood t = ltb 0 t && ltb t 2097152
 
 -- "it is text or carried and has a code other than 0 or a place plus length beyond the buffer"
 abbrev pub partGood : ℕ → ℕ → ℕ → Bool
-partGood room code spot = eqb code 0 && leb (spotPlace spot + spotLength spot) room
+partGood room code part = eqb code 0 && leb (partPlace part + partLength part) room
 
 -- "a number with another length than the catalogue's, a code too wide"; "tag 1's code is never a reason"
 abbrev pub codeGood : ℕ → ℕ → ℕ → Bool
 codeGood tag width code = eqb tag 1 || ltb code (2 ^ (8 * width))
 
 abbrev pub contentGood : Shape → ℕ → Row → Bool
-contentGood (Number width marked) room r = eqb (spotLength (r .spot)) width && codeGood (r .tag) width (r .code)
-contentGood Text room r = partGood room (r .code) (r .spot)
-contentGood Absent room r = partGood room (r .code) (r .spot)
+contentGood (Number width marked) room r = eqb (partLength (r .part)) width && codeGood (r .tag) width (r .code)
+contentGood Text room r = partGood room (r .code) (r .part)
+contentGood Absent room r = partGood room (r .code) (r .part)
 
 -- a row that is not bad, for a receiver and a buffer of so many bytes: its kind is the one that this receiver gives the tag and the code
 unfoldable pub rowGood : Shape → ℕ → Row → Bool
@@ -74,7 +74,7 @@ rowAt words n =
       tag = getD words (4 * n) 0;
       kind = getD words (4 * n + 1) 0;
       code = getD words (4 * n + 2) 0;
-      spot = getD words (4 * n + 3) 0;
+      part = getD words (4 * n + 3) 0;
     }
 
 -- "its tag beside one of four kinds of content"

@@ -22,7 +22,7 @@ pub struct RowWords {
     pub tag: u64,
     pub kind: u64,
     pub code: u64,
-    pub spot: u64,
+    pub part: u64,
 }
 
 // A filled table: how many rows it has.
@@ -99,10 +99,10 @@ fn is_good_content(shape: Shape, room: usize, row: RowWords) -> bool
     ensures { λ r. ⌜ r ≡ contentGood shape room row ⌝ }
 {
     match shape {
-        Shape::Text => is_good_part(room, row.code, row.spot),
-        Shape::Absent => is_good_part(room, row.code, row.spot),
+        Shape::Text => is_good_part(room, row.code, row.part),
+        Shape::Absent => is_good_part(room, row.code, row.part),
         Shape::Number { width, marked: _ } => {
-            if (row.spot % 65536) as usize == width {
+            if (row.part % 65536) as usize == width {
                 return is_good_code(row.tag, width, row.code);
             }
             false
@@ -111,11 +111,11 @@ fn is_good_content(shape: Shape, room: usize, row: RowWords) -> bool
 }
 
 // Text and carried: code 0, and the place plus the length within the buffer.
-fn is_good_part(room: usize, code: u64, spot: u64) -> bool
-    ensures { λ r. ⌜ r ≡ partGood room code spot ⌝ }
+fn is_good_part(room: usize, code: u64, part: u64) -> bool
+    ensures { λ r. ⌜ r ≡ partGood room code part ⌝ }
 {
-    let place = (spot / 65536) as usize;
-    let length = (spot % 65536) as usize;
+    let place = (part / 65536) as usize;
+    let length = (part % 65536) as usize;
     if code == 0 {
         return place + length <= room;
     }
@@ -207,16 +207,16 @@ pub fn row_at(words: &[u64], n: usize) -> RowWords
         tag: word_at(words, n, 0),
         kind: word_at(words, n, 1),
         code: word_at(words, n, 2),
-        spot: word_at(words, n, 3),
+        part: word_at(words, n, 3),
     }
 }
 
-fn part_of(spot: u64) -> Part
-    ensures { λ r. ⌜ r ≡ partOf spot ⌝ }
+fn part_of(part: u64) -> Part
+    ensures { λ r. ⌜ r ≡ partOf part ⌝ }
 {
     Part {
-        place: (spot / 65536) as usize,
-        length: (spot % 65536) as usize,
+        place: (part / 65536) as usize,
+        length: (part % 65536) as usize,
     }
 }
 
@@ -224,7 +224,7 @@ fn content_of(row: RowWords) -> Content
     ensures { λ r. ⌜ r ≡ contentOf (rowSays row) ⌝ }
 {
     let kind = row.kind;
-    let part = part_of(row.spot);
+    let part = part_of(row.part);
     if kind == READING {
         return Content::Reading(row.code);
     }

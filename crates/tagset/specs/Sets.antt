@@ -6,6 +6,10 @@ use lib.Bits.{bitOr}
 use Rattle.base.specs.Every.{allBelow}
 use Rattle.tagset.specs.declared.TagSet.{TagSet}
 
+-- the set of two words
+abbrev pub knowing : ℕ → ℕ → TagSet
+knowing low high = record { low = low; high = high }
+
 -- the two words as one number
 abbrev pub pair : TagSet → ℕ
 pair s = s .high * 2 ^ 64 + s .low

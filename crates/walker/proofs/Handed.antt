@@ -39,7 +39,7 @@ use Rattle.packet.proofs.Accepting.{accepting}
 use Rattle.refusal.proofs.Answers.{passed}
 use Rattle.laws.proofs.Sent.{Lies, lies-bytes, bytes-back, SizedFor, number-width, accepted-lie, accepted-sized}
 use Rattle.laws.proofs.Tables.{has-received}
-use Rattle.walker.specs.Steps.{contentIn, valueIn, rowIn, foundBy, partBy, nextBy, foundAt, partAt, nextAt, startPlace}
+use Rattle.walker.specs.Steps.{contentIn, headerValue, rowIn, foundBy, partBy, nextBy, foundAt, partAt, nextAt, startPlace}
 use Rattle.walker.specs.declared.Found.{Found}
 use Rattle.walker.specs.declared.Found.the-variants as found
 
@@ -87,7 +87,7 @@ module _ (K : TagSet) (p : List ℕ) where
 
   -- the item is handed out as its row is
   module _ (by : Bytes p) (h : Header) (inside : h .place + h .size ≤ length p) (l : Lies p (itemBy p h)) (s : SizedFor (holds K) (itemBy p h .piece)) where
-    long : length (valueIn p h) ≡ h .size
+    long : length (headerValue p h) ≡ h .size
     long = length-take-le (h .size) (drop (h .place) p) (rw length-drop (omega arith))
 
     -- a number has at most eight bytes
@@ -98,31 +98,31 @@ module _ (K : TagSet) (p : List ℕ) where
         (λ k. width-at-most (h .tag) w m (rw k at e))
         (λ k. let f : Absent ≡ Number w m = rw k at e in never (cc))
 
-    fits : (w : ℕ) (m : Bool) → shapeFor (holds K) (h .tag) ≡ Number w m → valueOf (valueIn p h) < 2 ^ 64
+    fits : (w : ℕ) (m : Bool) → shapeFor (holds K) (h .tag) ≡ Number w m → valueOf (headerValue p h) < 2 ^ 64
     fits w m e =
-        let size : length (valueIn p h) ≡ w = number-width (holds K) (itemBy p h .piece) w m s e in
+        let size : length (headerValue p h) ≡ w = number-width (holds K) (itemBy p h .piece) w m s e in
         let few : w ≤ 8 = narrow w m e in
         omega (
           arith,
-          value-small (valueIn p h) (lies-bytes p (itemBy p h) by l),
+          value-small (headerValue p h) (lies-bytes p (itemBy p h) by l),
           size,
           few,
           pow-le-pow-right {n = 256}
-              (omega arith) {i = length (valueIn p h)} {j = 8} (omega (arith, size, few)),
+              (omega arith) {i = length (headerValue p h)} {j = 8} (omega (arith, size, few)),
         )
 
-    same-part : record { place = h .place; length = h .size } ≡ partOf (h .place * 65536 + length (valueIn p h))
+    same-part : record { place = h .place; length = h .size } ≡ partOf (h .place * 65536 + length (headerValue p h))
     same-part = rw (digits-div (h .place) (l .short), digits-mod (h .place) (l .short), long)
 
     same-content : (x : Shape) → shapeFor (holds K) (h .tag) ≡ x
-        → contentIn x (valueOf (valueIn p h) % 2 ^ 64) (record { place = h .place; length = h .size }) ≡ contentOf (rowSays (rowBy x (itemBy p h)))
+        → contentIn x (valueOf (headerValue p h) % 2 ^ 64) (record { place = h .place; length = h .size }) ≡ contentOf (rowSays (rowBy x (itemBy p h)))
     same-content (Number w m) e =
-        let c : valueOf (valueIn p h) % 2 ^ 64 ≡ valueOf (valueIn p h) = mod-eq-of-lt (fits w m e) in
-        byBool (m && eqb (valueOf (valueIn p h)) (markCode w)) (λ b. rw (c, b)) (λ b. rw (c, b))
+        let c : valueOf (headerValue p h) % 2 ^ 64 ≡ valueOf (headerValue p h) = mod-eq-of-lt (fits w m e) in
+        byBool (m && eqb (valueOf (headerValue p h)) (markCode w)) (λ b. rw (c, b)) (λ b. rw (c, b))
     same-content Text e = ap content.Text same-part
     same-content Absent e = ap content.Carried same-part
 
-    same-item : _≡_ {A = Handed} (record { row = rowIn K p h; value = valueIn p h }) (handedRow K p (rowOf (holds K) (itemBy p h)))
+    same-item : _≡_ {A = Handed} (record { row = rowIn K p h; value = headerValue p h }) (handedRow K p (rowOf (holds K) (itemBy p h)))
     unfolding rowIn rowOf
     same-item =
         let c = same-content (shapeFor (holds K) (h .tag)) refl in

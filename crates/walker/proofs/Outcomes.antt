@@ -21,7 +21,8 @@ use Rattle.refusal.specs.declared.Refusal.{Refusal}
 use Rattle.refusal.proofs.Laws.{refusal-apart}
 use Rattle.packet.specs.Verdict.{checked}
 use Rattle.packet.specs.declared.Accepted.{Accepted}
-use Rattle.walker.specs.Steps.{knowing, foundAt, beginBy, beginSaid, placeBy, startPlace}
+use Rattle.walker.specs.Steps.{foundAt, beginBy, beginSaid, placeBy, startPlace}
+use Rattle.tagset.specs.Sets.{knowing}
 use Rattle.walker.specs.Passes.{Starts, Passes}
 use Rattle.walker.specs.declared.Begin.{Begin}
 use Rattle.walker.specs.declared.Begin.the-variants.{Good, Refused}

@@ -4,7 +4,8 @@ use mathlib.Core.Path.{_≡_}
 use mathlib.Core.List.{List}
 use denote.Ref.{RefT, now}
 use Rattle.packet.specs.Verdict.{checked}
-use Rattle.walker.specs.Steps.{knowing, foundAt, partAt, nextAt, beginBy, beginSaid, startPlace}
+use Rattle.walker.specs.Steps.{foundAt, partAt, nextAt, beginBy, beginSaid, startPlace}
+use Rattle.tagset.specs.Sets.{knowing}
 use Rattle.walker.specs.declared.Walker.{Walker}
 use Rattle.walker.specs.declared.Started.{Started}
 use Rattle.walker.specs.declared.Passed.{Passed}

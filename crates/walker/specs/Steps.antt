@@ -22,23 +22,19 @@ use Rattle.walker.specs.declared.Found.the-variants.{Item, NoMore}
 use Rattle.walker.specs.declared.Begin.{Begin}
 use Rattle.walker.specs.declared.Begin.the-variants as begin
 
--- the knowing set of two words
-abbrev pub knowing : ℕ → ℕ → TagSet
-knowing low high = record { low = low; high = high }
-
 -- "its tag beside one of four kinds of content"
 abbrev pub contentIn : Shape → ℕ → Part → Content
 contentIn shape code part = contentOf (seenAs shape code (part .length) part)
 
-abbrev pub valueIn : List ℕ → Header → List ℕ
-valueIn p h = take (h .size) (drop (h .place) p)
+abbrev pub headerValue : List ℕ → Header → List ℕ
+headerValue p h = take (h .size) (drop (h .place) p)
 
 -- the item with a header: of more than eight bytes of a number the last eight count
 unfoldable pub rowIn : TagSet → List ℕ → Header → Row
 rowIn K p h =
     record {
       tag = h .tag;
-      content = contentIn (shapeFor (holds K) (h .tag)) (valueOf (valueIn p h) % 2 ^ 64) (record { place = h .place; length = h .size });
+      content = contentIn (shapeFor (holds K) (h .tag)) (valueOf (headerValue p h) % 2 ^ 64) (record { place = h .place; length = h .size });
     }
 
 -- the item at a place, its value, and the place after it; where there is none, no bytes and the same place
@@ -46,7 +42,7 @@ abbrev pub foundBy : TagSet → List ℕ → Answer Header → Found
 foundBy K p = orElse NoMore (λ h. Item (rowIn K p h))
 
 abbrev pub partBy : List ℕ → Answer Header → List ℕ
-partBy p = orElse [] (valueIn p)
+partBy p = orElse [] (headerValue p)
 
 abbrev pub nextBy : ℕ → Answer Header → ℕ
 nextBy at = orElse at (λ h. h .place + h .size)

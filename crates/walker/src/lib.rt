@@ -4,13 +4,13 @@
 ghost use mathlib.Core.Path.{_≡_};
 ghost use Prim.Native.Nat.{_+_, _≤_};
 ghost use lib.ListN.{length};
-ghost use Rattle.tagset.specs.Sets.{holds};
+ghost use Rattle.tagset.specs.Sets.{holds, knowing};
 ghost use Rattle.catalogue.specs.Shapes.{isMarked};
 ghost use Rattle.catalogue.specs.declared.Shape.the-variants.{Number};
 ghost use Rattle.rows.specs.Meaning.{shapeFor};
 ghost use Rattle.packet.specs.Verdict.{checked};
 ghost use Rattle.walker.specs.Passes.{Starts, Passes};
-ghost use Rattle.walker.specs.Steps.{knowing, contentIn, rowIn, foundAt, partAt, nextAt, beginBy, beginSaid, startPlace, placeNumber};
+ghost use Rattle.walker.specs.Steps.{contentIn, rowIn, foundAt, partAt, nextAt, beginBy, beginSaid, startPlace, placeNumber};
 use catalogue::Found as Listed;
 use catalogue::Shape;
 use catalogue::Sign;

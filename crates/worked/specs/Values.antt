@@ -60,7 +60,7 @@ tableWith rows = words rows ++ (replicate (512 - 4 * length rows) 0 ++ (7 ∷ []
 
 -- a number's row, by the place of its value
 abbrev pub numberRow : ℕ → ℕ → ℕ → ℕ → Row
-numberRow place size tag code = record { tag = tag; kind = readingKind; code = code; spot = place * 65536 + size }
+numberRow place size tag code = record { tag = tag; kind = readingKind; code = code; part = place * 65536 + size }
 
 pub data Case : Type 0 where
   -- the bytes of a length, and what reading them finds

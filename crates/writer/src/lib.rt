@@ -9,10 +9,10 @@ ghost use Rattle.number.specs.Stored.{bytesOf};
 ghost use Rattle.base.specs.Putting.{Room, Wrote};
 ghost use Rattle.ber.specs.Written.{lengthBytes};
 ghost use Rattle.tagset.specs.Sets.{holds};
-ghost use Rattle.rows.specs.Taken.{spotLength, rowGood, contentGood};
+ghost use Rattle.rows.specs.Taken.{partLength, rowGood, contentGood};
 ghost use Rattle.packet.specs.Structure.{key};
 ghost use Rattle.packet.specs.Encode.{encode};
-ghost use Rattle.packet.specs.Rows.{valueIn};
+ghost use Rattle.packet.specs.Rows.{rowValue};
 ghost use Rattle.writer.specs.Writes.{Writes};
 ghost use Rattle.writer.specs.code.Putting.{rowBytes, tableBytes, tablePieces, Rows, Ready};
 use catalogue::Shape;
@@ -45,12 +45,12 @@ fn copy(out: &mut [u8], at: usize, buffer: &[u8], place: usize, size: usize)
 
 // A row's value: the bytes of its code, or those that it points at.
 fn put_value(out: &mut [u8], at: usize, shape: Shape, row: RowWords, buffer: &[u8])
-    requires { ⌜ (contentGood shape (length (now buffer)) row ≡ true) × (at + spotLength (row .spot) ≤ length (now out)) ⌝ }
-    ensures { λ _. ⌜ Wrote (now (out .entry)) at (valueIn shape (now (buffer .entry)) row) (at + spotLength (row .spot)) (now (out .exit)) ⌝ }
+    requires { ⌜ (contentGood shape (length (now buffer)) row ≡ true) × (at + partLength (row .part) ≤ length (now out)) ⌝ }
+    ensures { λ _. ⌜ Wrote (now (out .entry)) at (rowValue shape (now (buffer .entry)) row) (at + partLength (row .part)) (now (out .exit)) ⌝ }
 {
-    let spot = row.spot;
-    let place = (spot / 65536) as usize;
-    let size = (spot % 65536) as usize;
+    let part = row.part;
+    let place = (part / 65536) as usize;
+    let size = (part % 65536) as usize;
     match shape {
         Shape::Number {
             width: _,
@@ -66,7 +66,7 @@ fn put_item(out: &mut [u8], at: usize, shape: Shape, row: RowWords, buffer: &[u8
     requires { ⌜ (rowGood shape (length (now buffer)) row ≡ true) × Room (now out) at (rowBytes shape (now buffer) row) ⌝ }
     ensures { λ r. ⌜ Wrote (now (out .entry)) at (rowBytes shape (now (buffer .entry)) row) r (now (out .exit)) ⌝ }
 {
-    let size = row.spot % 65536;
+    let size = row.part % 65536;
     let after = at + ber::put_tag(out, at, row.tag);
     let place = after + ber::put_length(out, after, size);
     put_value(out, place, shape, row, buffer);

@@ -7,13 +7,13 @@ use borrow.Author.Needs.{needs}
 use lib.Dec.{eqb}
 use Rattle.base.proofs.Every.{both-right}
 use Rattle.packet.specs.Rows.{rowsIn}
-use Rattle.ground.specs.Values.{valueIn}
+use Rattle.ground.specs.Values.{valueFor}
 use Rattle.ground.proofs.Values.{this-row, next-row, no-row}
 use Rattle.ground.proofs.value_in.Statement.{statement}
 use Rattle.ground.proofs.value_in.Tie as tie
 
 abbrev Inv-loop : tie.InvT-loop
-Inv-loop words count tag n₀ n = (n ≤ count) × (valueIn tag (rowsIn n (count - n) words) ≡ valueIn tag (rowsIn 0 count words))
+Inv-loop words count tag n₀ n = (n ≤ count) × (valueFor tag (rowsIn n (count - n) words) ≡ valueFor tag (rowsIn 0 count words))
 
 abbrev μ-loop : tie.MeasureT-loop
 μ-loop words count tag n₀ n = count - n

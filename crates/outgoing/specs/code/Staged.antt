@@ -10,7 +10,7 @@ use Rattle.ber.specs.Written.{tagBytes, lengthBytes}
 use Rattle.tagset.specs.Sets.{holds, withTag}
 use Rattle.tagset.specs.declared.TagSet.{TagSet}
 use Rattle.rows.specs.Meaning.{Row}
-use Rattle.rows.specs.Taken.{spotLength, rowAt}
+use Rattle.rows.specs.Taken.{partLength, rowAt}
 use Rattle.packet.specs.Judge.{Fault, clean, wrong, faultBy, looked}
 use Rattle.packet.specs.Ends.{rightEnds}
 use Rattle.packet.specs.declared.Ends.{Ends}
@@ -20,7 +20,7 @@ use Rattle.outgoing.specs.declared.Packed.{Packed}
 
 -- how many bytes a row's item has: tag, length in its shortest form, value
 abbrev pub rowSize : Row → ℕ
-rowSize r = length (tagBytes (r .tag)) + length (lengthBytes (spotLength (r .spot))) + spotLength (r .spot)
+rowSize r = length (tagBytes (r .tag)) + length (lengthBytes (partLength (r .part))) + partLength (r .part)
 
 unfoldable pub rowsSize : List Row → ℕ
 rowsSize [] = 0
@@ -32,7 +32,7 @@ packedBy items = record { size = 16 + length (lengthBytes items) + items; items 
 
 -- what is wrong with a row for a receiver, by the tags seen
 unfoldable pub rowFault : TagSet → TagSet → Row → Fault
-rowFault K seen r = cond (holds K (r .tag)) (faultBy (looked (r .tag) (spotLength (r .spot)) (r .code) (holds seen (r .tag)))) clean
+rowFault K seen r = cond (holds K (r .tag)) (faultBy (looked (r .tag) (partLength (r .part)) (r .code) (holds seen (r .tag)))) clean
 
 abbrev pub unlessFaulty : Fault → ℕ → ℕ → Answer (Unit {0}) → Answer (Unit {0})
 unlessFaulty clean k t otherwise = otherwise
@@ -54,7 +54,7 @@ abbrev pub endsIn : ℕ → List ℕ → Ends
 endsIn count words =
     let z = rowAt words (count - 1) in
     cond (eqb count 0) (record { start = 0; first = 0; end = 0; last = 0; size = 0 })
-    (record { start = 0; first = rowAt words 0 .tag; end = count - 1; last = z .tag; size = spotLength (z .spot) })
+    (record { start = 0; first = rowAt words 0 .tag; end = count - 1; last = z .tag; size = partLength (z .part) })
 
 -- 9, 10, 12 to 15, or how many bytes the packet has
 abbrev pub closedIn : TagSet → ℕ → List ℕ → Packed → Answer Packed

@@ -42,7 +42,7 @@ returns c =
     let code = c .before .code-at .ensures ∙ ap (λ h. codeOf (meaningOf h v)) shape in
     let kind = c .kind-of .ensures ∙ (ap (λ h. kindFor h (c .before .code-at .result)) shape ∙ (ap (kindFor S) code ∙ kind-by-code S v)) in
     let size = value-length p (record { byte = λ k. c .before .before .before .shared-slice-known .given k .fits }) i (s .pre .1) in
-    λ k. record { tag = i .tag; kind = kind k; code = code k; spot = i .place * 65536 + sym size k }
+    λ k. record { tag = i .tag; kind = kind k; code = code k; part = i .place * 65536 + sym size k }
 
 pub row-of-spec : {M : Type 1} → statement M
 row-of-spec =

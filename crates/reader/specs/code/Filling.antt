@@ -14,7 +14,7 @@ use Rattle.packet.specs.Rows.{Row}
 
 -- a row's words put at its place
 abbrev pub putRow : List ℕ → ℕ → Row → List ℕ
-putRow t n r = sets t (4 * n) (r .tag ∷ r .kind ∷ r .code ∷ r .spot ∷ [])
+putRow t n r = sets t (4 * n) (r .tag ∷ r .kind ∷ r .code ∷ r .part ∷ [])
 
 -- a number of at most eight bytes; text and carried bytes are not read as numbers
 abbrev pub Narrow : Shape → ℕ → Type 0

@@ -15,7 +15,7 @@ use Rattle.base.proofs.Kit.{Args, Vals, onEntry, Meets, tripleOf, entered, cite
 use Rattle.base.proofs.Kit.{goes-none-slice, goes-gave-slice, ends-at, yes}
 use denote.Enum.Laws as EL
 use denote.Struct.Laws as LL
-use Rattle.records.specs.Images.{imagesInto, fitting, tableOf}
+use Rattle.records.specs.Images.{imagesInto, fitting, imageTable}
 use Rattle.rows.specs.declared.Row.{Row}
 use Rattle.writer.specs.Writes.{Writes}
 use Rattle.writer.specs.declared.Writing.{Writing}
@@ -126,7 +126,7 @@ module _ {M : Type 1} (𝓤 : URA M) (H : Heap 𝓤) (A : Atoms 𝓤) (W : Given
 
   -- what the contract says, of a result and a last list
   abbrev Said : Writing → List ℕ → Type 0
-  Said r zs = Writes k (length (s .now)) (tableOf (s .now)) (x .now) (y .now) r zs
+  Said r zs = Writes k (length (s .now)) (imageTable (s .now)) (x .now) (y .now) r zs
 
   exits : (r : Writing) (w : Val) (zs : List ℕ) → Said r zs → length zs ≡ length (y .now)
       → ent 𝓤 (⋆ 𝓤 H A (Tok ∷ ‵ OwnR ∷ Toks ∷ ‵ OwnX ∷ ‵ (finally u8 (name y) zs) ∷ ‵ (N.the-row .own r (w ∷ [])) ∷ [])) (Post w)
@@ -253,7 +253,7 @@ module _ {M : Type 1} (𝓤 : URA M) (H : Heap 𝓤) (A : Atoms 𝓤) (W : Given
             → Writes k c ts (x .now) (y .now) r zs → Said r zs
         told c n ts r zs ec en et e =
             let same = et ∙ ap (λ (m : ℕ). imagesInto m (s .now) (replicate 512 0)) (en ∙ ap fitting ec) ∙ table-is (s .now) in
-            subst (λ (m : ℕ). Writes k m (tableOf (s .now)) (x .now) (y .now) r zs) ec (subst (λ (us : List ℕ). Writes k c us (x .now) (y .now) r zs) same e)
+            subst (λ (m : ℕ). Writes k m (imageTable (s .now)) (x .now) (y .now) r zs) ec (subst (λ (us : List ℕ). Writes k c us (x .now) (y .now) r zs) same e)
 
 module _ {M : Type 1} (𝓤 : URA M) (H : Heap 𝓤) (A : Atoms 𝓤) (W : Given 𝓤 H A) (mem : Memory → SProp 𝓤) (run : Routine → Fun 𝓤) (𝓣 : Tables 𝓤 H)
     (known-count : Triple 𝓤 (𝓣 .C #records·count) (Count 𝓤 H A mem run)) (known-fit : Triple 𝓤 (𝓣 .C #records·fitting-of) (FittingOf 𝓤 H A mem run))

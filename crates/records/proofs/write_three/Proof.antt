@@ -14,7 +14,7 @@ use Rattle.base.proofs.Kit.{stay-none-slice, gave-slice, walkOf, goes-none, goe
 use lib.Dec.{T as Holds}
 use denote.Enum.Laws as EL
 use denote.Struct.Laws as LL
-use Rattle.records.specs.Images.{tableOf}
+use Rattle.records.specs.Images.{imageTable}
 use Rattle.rows.specs.declared.Row.{Row}
 use Rattle.writer.specs.Writes.{Writes}
 use Rattle.writer.specs.declared.Writing.{Writing}
@@ -106,7 +106,7 @@ module _ {M : Type 1} (𝓤 : URA M) (H : Heap 𝓤) (A : Atoms 𝓤) (W : Given
   OwnY = MutSlice (named 1) κ₁ u8 .own y (vy ∷ [])
 
   abbrev Said : Writing → List ℕ → Type 0
-  Said r zs = Writes k (length ts) (tableOf ts) (x .now) (y .now) r zs
+  Said r zs = Writes k (length ts) (imageTable ts) (x .now) (y .now) r zs
 
   exits : (r : Writing) (w : Val) (zs : List ℕ) → Said r zs → length zs ≡ length (y .now)
       → ent 𝓤 (⋆ 𝓤 H A (Toks ∷ ‵ OwnX ∷ ‵ (finally u8 (name y) zs) ∷ ‵ (N.the-row .own r (w ∷ [])) ∷ [])) (Post w)

@@ -15,7 +15,8 @@ use Rattle.base.proofs.Kit.{entered, cited, says, Stays, stay-none, walkOf, goe
 use lib.Dec.{T as Holds}
 use denote.Enum.Laws as EL
 use denote.Struct.Laws as LL
-use Rattle.walker.specs.Steps.{knowing, foundAt, partAt, nextAt}
+use Rattle.walker.specs.Steps.{foundAt, partAt, nextAt}
+use Rattle.tagset.specs.Sets.{knowing}
 use Rattle.walker.specs.declared.Walker.{Walker}
 use Rattle.walker.specs.declared.Passed.{Passed}
 use Rattle.walker.specs.declared.Found.{Found}

@@ -13,7 +13,8 @@ use Rattle.base.proofs.Kit.{goes-none, goes-none-slice, ends-at, yes}
 use denote.Enum.Laws as EL
 use denote.Struct.Laws as LL
 use Rattle.packet.specs.Verdict.{checked}
-use Rattle.walker.specs.Steps.{knowing, beginBy, beginSaid, startPlace}
+use Rattle.walker.specs.Steps.{beginBy, beginSaid, startPlace}
+use Rattle.tagset.specs.Sets.{knowing}
 use Rattle.walker.specs.declared.Walker.{Walker}
 use Rattle.walker.specs.declared.Started.{Started}
 use Rattle.walker.specs.declared.Begun.{Begun}

@@ -17,7 +17,8 @@ use Rattle.base.proofs.Kit.{goes-none-slice, ends-at, yes}
 use denote.Struct.Laws as LL
 use Rattle.tagset.specs.declared.TagSet.{TagSet}
 use Rattle.walker.specs.Passes.{Starts, Passes}
-use Rattle.walker.specs.Steps.{knowing, partAt, nextAt, startPlace, placeNumber}
+use Rattle.walker.specs.Steps.{partAt, nextAt, startPlace, placeNumber}
+use Rattle.tagset.specs.Sets.{knowing}
 use Rattle.walker.specs.declared.Walker.{Walker}
 use Rattle.walker.specs.declared.Started.{Started}
 use Rattle.walker.specs.declared.Passed.{Passed}

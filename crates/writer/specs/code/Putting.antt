@@ -11,11 +11,11 @@ use Rattle.rows.specs.Taken.{GoodRow}
 use Rattle.packet.specs.Pieces.{Piece}
 use Rattle.packet.specs.Judge.{Knowing}
 use Rattle.packet.specs.Encode.{itemBytes, itemsBytes, encode}
-use Rattle.packet.specs.Rows.{valueIn, rowsIn, piecesOf}
+use Rattle.packet.specs.Rows.{rowValue, rowsIn, piecesOf}
 
 -- a row's item, its tag having a shape
 abbrev pub rowBytes : Shape → List ℕ → Row → List ℕ
-rowBytes shape b r = itemBytes (record { tag = r .tag; value = valueIn shape b r })
+rowBytes shape b r = itemBytes (record { tag = r .tag; value = rowValue shape b r })
 
 -- the pieces of count rows in lent words
 abbrev pub tablePieces : Knowing → List ℕ → ℕ → List ℕ → List Piece
