@@ -82,7 +82,8 @@ module _ (K : Knowing) (b : List ℕ) (t : ℕ) (i : Item) (knows : K t ≡ true
 
   -- a row of the tag that is not bad is a mark or a number
   module _ (r : Row) (e : r .tag ≡ t) (g : GoodRow K b r) where
-    parts : (eqb (r .kind) (kindFor (Number (i .width) (isMarked (i .sign))) (r .code)) && (eqb (partLength (r .part)) (i .width) && (eqb (r .tag) 1 || ltb (r .code) (2 ^ (8 * i .width))))) ≡ true
+    parts : (eqb (r .kind) (kindFor (Number (i .width) (isMarked (i .sign))) (r .code))
+        && (eqb (partLength (r .part)) (i .width) && (eqb (r .tag) 1 || ltb (r .code) (2 ^ (8 * i .width))))) ≡ true
     unfolding rowGood
     parts = both-right (tagGood (r .tag)) _ (rw (ap (shapeFor K) e ∙ shape-is) at g)
 
@@ -93,7 +94,9 @@ module _ (K : Knowing) (b : List ℕ) (t : ℕ) (i : Item) (knows : K t ≡ true
     no-sum = byEq (r .tag) 1 (λ z. absurd (unscaled-sum i (rw (← z, e) s))) (λ n. ne-eqb _ _ n)
 
     fits : ltb (r .code) (2 ^ (8 * i .width)) ≡ true
-    fits = rw no-sum at (both-right (eqb (partLength (r .part)) (i .width)) _ (both-right (eqb (r .kind) (kindFor (Number (i .width) (isMarked (i .sign))) (r .code))) _ parts))
+    fits =
+        rw no-sum at
+        (both-right (eqb (partLength (r .part)) (i .width)) _ (both-right (eqb (r .kind) (kindFor (Number (i .width) (isMarked (i .sign))) (r .code))) _ parts))
 
     mark-says : marked r ≡ true → (r .kind ≡ 2) × (valueBy r ≡ Off)
     unfolding valueBy

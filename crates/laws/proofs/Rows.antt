@@ -78,9 +78,19 @@ module _ (K : Knowing) (b : List ℕ) (r : Row) where
       go : (s : Shape) → shapeFor K (r .tag) ≡ s → r .kind ≡ kindFor s (r .code) → contentGood s (length b) r ≡ true → Made K b r
       go (Number width marked) f k c = number-made width marked f k c
       go Text f k c =
-          record { kind = rw f k; code = λ other. rw f (eqb-true _ _ (both-left (eqb (r .code) 0) _ c)); size = rw f (part-size (both-right (eqb (r .code) 0) _ c)) }
+          record {
+            kind =
+                rw f k;
+            code = λ other. rw f (eqb-true _ _ (both-left (eqb (r .code) 0) _ c));
+            size = rw f (part-size (both-right (eqb (r .code) 0) _ c));
+          }
       go Absent f k c =
-          record { kind = rw f k; code = λ other. rw f (eqb-true _ _ (both-left (eqb (r .code) 0) _ c)); size = rw f (part-size (both-right (eqb (r .code) 0) _ c)) }
+          record {
+            kind =
+                rw f k;
+            code = λ other. rw f (eqb-true _ _ (both-left (eqb (r .code) 0) _ c));
+            size = rw f (part-size (both-right (eqb (r .code) 0) _ c));
+          }
 
   -- and its piece's tag can be written
   pub good-tagged : GoodRow K b r → Tagged (pieceOf K b r)
@@ -122,7 +132,12 @@ good-row K p i by t l s =
         let coded : codeGood (i .piece .tag) width (valueOf v) ≡ true =
         byBool (eqb (i .piece .tag) 1) (λ e. rw e) (λ e. rw (e, bits-bytes width) (lt-ltb _ _ fits)) in
         let code = code-seen (length v) v width marked (valueOf v) in
-        rw (code, eq-eqb _ _ (kind-seen (length v) v (Number width marked) (valueOf v)), eq-eqb (partLength (i .place * 65536 + length v)) width (size ∙ w)) coded
+        rw (
+          code,
+          eq-eqb _ _ (kind-seen (length v) v (Number width marked) (valueOf v)),
+          eq-eqb (partLength (i .place * 65536 + length v)) width (size
+              ∙ w),
+        ) coded
     go Text f = part
     go Absent f = part
 

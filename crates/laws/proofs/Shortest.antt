@@ -53,7 +53,8 @@ module _ (p : List ℕ) (is : List Item) (by : Bytes p) (f : Formed p is) where
       let v : List ℕ = z .piece .value in
       let place : length p - 2 ≡ z .place = omega (arith, formed-sum p is f) in
       let lies : Lies p z = each-last (Lies p) (f .front) z (rw (f .closes) at (formed-lie p is f)) in
-      let rest : v ≡ drop (z .place) p = lies .there ∙ take-all (length v) (drop (z .place) p) (omega (arith, length-drop (z .place) p, formed-sum p is f, f .pair)) in
+      let rest : v ≡ drop (z .place) p = lies .there
+      ∙ take-all (length v) (drop (z .place) p) (omega (arith, length-drop (z .place) p, formed-sum p is f, f .pair)) in
       let sum : bytesOf 2 (checksumOf (take (z .place) p)) ≡ v = spelled v 2 _ (rw rest (bytes-drop (z .place) by)) (f .pair) (f .sum) in
       rw (place, sum, rest) (take-append-drop (z .place) p)
 

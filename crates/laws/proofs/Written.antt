@@ -220,7 +220,8 @@ module _ (cs : List Piece) (s : Sendable cs) where
       let at : ℕ = bodyAt found in
       let size = length-unsummed found in
       let small : length (unsummed found) ≤ 8192 = rw found-written at (s .fits) in
-      let z : Item = record { start = at + length (itemsBytes front); place = at + length (itemsBytes front) + shortHead (sumPiece new); piece = sumPiece new } in
+      let from : ℕ = at + length (itemsBytes front) in
+      let z : Item = record { start = from; place = from + shortHead (sumPiece new); piece = sumPiece new } in
       let whole : unsummed found ≡ upToSum front ++ new = unsummed-last front new (pair-new front) in
       let end : length (upToSum front) ≡ z .place = omega (
         arith,

@@ -116,7 +116,8 @@ pub sent-sendable : (K : Knowing) (cs : List Piece) → Sent K cs → sendable K
 unfolding sendable
 sent-sendable K cs s = rw (le-ltb 8192 (length (encode cs)) (s .small), right-ends (endsOf cs) (ends-sent cs (s .start) (s .end)), s .faultless)
 
-pub outgoes-given : (K : TagSet) (count : ℕ) (words b : List ℕ) → Outgoes K count words b → outgoing K count words b ≡ given (piecesOf (holds K) b (rowsIn 0 count words))
+pub outgoes-given : (K : TagSet) (count : ℕ) (words b : List ℕ) → Outgoes K count words b
+    → outgoing K count words b ≡ given (piecesOf (holds K) b (rowsIn 0 count words))
 unfolding outgoing
 outgoes-given K count words b o =
     rw (o .knows, o .counted, good-all (holds K) b 0 (rowsIn 0 count words) (o .rows)) (sent-sendable (holds K) _ (o .pieces))

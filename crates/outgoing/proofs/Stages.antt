@@ -134,7 +134,8 @@ module _ (K : TagSet) (w : Words K) (b : List ℕ) where
   unfolding shapeFor shapeOf itemOf itemIn member groups
   limited-code r g k e other = rw (k, e) at (good-made (holds K) b r g .code other)
 
-  same-code : (r : Row) → Good r → holds K (r .tag) ≡ true → (n : ℕ) → codeAllowed (r .tag) n (r .code) ≡ codeAllowed (r .tag) n (valueOf (pieceOf (holds K) b r .value))
+  same-code : (r : Row) → Good r → holds K (r .tag) ≡ true → (n : ℕ)
+      → codeAllowed (r .tag) n (r .code) ≡ codeAllowed (r .tag) n (valueOf (pieceOf (holds K) b r .value))
   unfolding codeAllowed
   same-code r g k n =
       byEq (r .tag) 34 (λ e. ap (codeAllowed (r .tag) n) (limited-code r g k (ap shapeOf e) (λ f. omega arith)))

@@ -84,7 +84,8 @@ accepting K p is by e =
 -- each known item has an allowed length
 pub data AllFit (K : Knowing) : List Item → Type 0 where
   noneFits : AllFit K []
-  oneFits : {i : Item} {is : List Item} → (K (i .piece .tag) ≡ true → shapeAllows (shapeOf (i .piece .tag)) (length (i .piece .value)) ≡ true) → AllFit K is → AllFit K (i ∷ is)
+  oneFits : {i : Item} {is : List Item} → (K (i .piece .tag) ≡ true → shapeAllows (shapeOf (i .piece .tag)) (length (i .piece .value)) ≡ true) → AllFit K is
+      → AllFit K (i ∷ is)
 
 allows-if-clean : (K seen : Knowing) (c : Piece) → faultOf K seen c ≡ clean → K (c .tag) ≡ true → shapeAllows (shapeOf (c .tag)) (length (c .value)) ≡ true
 unfolding faultOf
@@ -110,7 +111,8 @@ fine-fit K seen (i ∷ is) e =
     oneFits (allows-if-clean K (among seen) (i .piece) (q .0)) (fine-fit K (i .piece .tag ∷ seen) is (q .1))
 
 -- a walk of at most n items finds no more
-few-before : (i : Item) (n : ℕ) (w : Answer (List Item)) (is : List Item) → ((js : List Item) → w ≡ given js → length js ≤ n) → before i w ≡ given is → length is ≤ suc n
+few-before : (i : Item) (n : ℕ) (w : Answer (List Item)) (is : List Item) → ((js : List Item) → w ≡ given js → length js ≤ n) → before i w ≡ given is
+    → length is ≤ suc n
 few-before i n (given js) is h e = let f : i ∷ js ≡ is = cc in rw (← f) (omega (arith, h js refl))
 few-before i n (refused r a t) is h e = not-given e
 

@@ -58,7 +58,8 @@ module _ (p : List ℕ) (at : ℕ) where
       one-item h enough = by-size ∙ rw (le-leb (s + k + n) (length p - at) (omega arith), add-assoc at s k)
 
 -- a tag and a length of one byte each, which stand at a place and the next
-module _ (p : List ℕ) (at t n : ℕ) (tag : t ≡ getD p at 0) (size : n ≡ getD p (at + 1) 0) (inside : at ≤ length p - 2) (two : 2 ≤ length p) (short : shortForms t n ≡ true) where
+module _ (p : List ℕ) (at t n : ℕ) (tag : t ≡ getD p at 0) (size : n ≡ getD p (at + 1) 0) (inside : at ≤ length p - 2) (two : 2 ≤ length p)
+    (short : shortForms t n ≡ true) where
   plain-tag : readTag (drop at p) ≡ got t 1
   unfolding readTag shortForms
   plain-tag =

@@ -108,7 +108,8 @@ module _ (K : TagSet) (w : Words K) (from : ℕ) where
       ≡ bodyBy from (T .count + suc (length is)) (i ∷ is) (onFault f t (judgeFrom (holds K) (t ∷ ts) (pieces is))) in
       let cleanly : goes clean =
       judged-items (next clean) (t ∷ ts) is (rw e) (one-seen (T .seen) ts t b)
-      ∙ (ap (λ n. bodyBy from n is (judgeFrom (holds K) (t ∷ ts) (pieces is))) (let q : T .count + 1 + length is ≡ T .count + suc (length is) = omega arith in q)
+      ∙ (ap (λ n. bodyBy from n is (judgeFrom (holds K) (t ∷ ts) (pieces is)))
+      (let q : T .count + 1 + length is ≡ T .count + suc (length is) = omega arith in q)
       ∙ sym (body-later from (T .count + suc (length is)) i is (judgeFrom (holds K) (t ∷ ts) (pieces is)))) in
       let wrongly : (n : ℕ) → goes (wrong n) = λ n. faulty-first T i is n (T .count + suc (length is)) (judgeFrom (holds K) (t ∷ ts) (pieces is)) e in
       ap (λ f. judgement from (tallyFrom K (next f) is)) (same-fault K (T .seen) ts i w b)
@@ -147,7 +148,8 @@ module _ (p : List ℕ) (by : Bytes p) where
   by-header : (n at : ℕ) (is : List Item) → at < length p → ((b : ℕ) (js : List Item) → walk n b (drop b p) ≡ given js → Walked p b js)
       → (a : Answer Header) → headerAt p at ≡ a → walk (suc n) at (drop at p) ≡ given is → Walked p at is
   by-header n at is h rest (given i) e f =
-      walked-on n at i is (walk n (i .place + i .size) (drop (i .place + i .size) p)) e (λ js g. rest (i .place + i .size) js g) (sym (walk-item p at h n i e) ∙ f)
+      walked-on n at i is (walk n (i .place + i .size) (drop (i .place + i .size) p)) e (λ js g. rest (i .place + i .size) js g) (sym (walk-item p at h n i e)
+      ∙ f)
   by-header n at is h rest (refused r a t) e f =
       let z : refused r a t ≡ given is = sym (walk-refused p at h n r a t e) ∙ f in
       let y : _≡_ {A = ℕ} 0 1 = cc in absurd (omega arith)
@@ -250,7 +252,8 @@ module _ (K : TagSet) (w : Words K) (p : List ℕ) (by : Bytes p) where
   walked-concluded from (refused n a t) e = refl
 
   -- the last header of a walk lies in the packet
-  pub last-inside : (from : ℕ) (a : Answer (List Item)) (T : Tally) → walk 128 from (drop from p) ≡ a → given T ≡ tallied K fresh a → T .last .place + T .last .size ≤ length p
+  pub last-inside : (from : ℕ) (a : Answer (List Item)) (T : Tally) → walk 128 from (drop from p) ≡ a → given T ≡ tallied K fresh a
+      → T .last .place + T .last .size ≤ length p
   unfolding tallyFrom
   last-inside from (given []) T e f = let g : T ≡ fresh = cc in rw g (omega arith)
   last-inside from (given (i ∷ is)) T e f =

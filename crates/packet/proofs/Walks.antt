@@ -96,7 +96,8 @@ header-back p i h =
     let e : length (take (i .size) (drop (i .place) p)) ≡ i .size = rw (length-take, length-drop) (omega arith) in
     λ k. record { tag = i .tag; start = i .start; place = i .place; size = e k }
 
-pub tallied-before : (K : TagSet) (T : Tally) (i : Item) (w : Answer (List Item)) → tallied K T (before i w) ≡ tallied K (withHeader T (headerOf i) (faultIn K (T .seen) i)) w
+pub tallied-before : (K : TagSet) (T : Tally) (i : Item) (w : Answer (List Item))
+    → tallied K T (before i w) ≡ tallied K (withHeader T (headerOf i) (faultIn K (T .seen) i)) w
 unfolding tallyFrom
 tallied-before K T i (given is) = refl
 tallied-before K T i (refused n p t) = refl

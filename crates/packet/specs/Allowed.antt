@@ -64,7 +64,8 @@ pub record Clean (K : Knowing) (cs : List Piece) : Type 0 where
   -- 13: "known tag a second time"
   pub once : (j k : ℕ) → j < k → k < length cs → K (pieceAt cs k .tag) ≡ true → pieceAt cs j .tag ≡ pieceAt cs k .tag → ⊥
   -- 14: "item 34 or 63 outside its codes"
-  pub coded : (k : ℕ) → k < length cs → K (pieceAt cs k .tag) ≡ true → codeAllowed (pieceAt cs k .tag) (length (pieceAt cs k .value)) (valueOf (pieceAt cs k .value)) ≡ true
+  pub coded : (k : ℕ) → k < length cs → K (pieceAt cs k .tag) ≡ true
+      → codeAllowed (pieceAt cs k .tag) (length (pieceAt cs k .value)) (valueOf (pieceAt cs k .value)) ≡ true
   -- "tag 65 is present"
   pub version : (k : ℕ) × (k < length cs) × (pieceAt cs k .tag ≡ 65)
 

@@ -36,7 +36,8 @@ narrow-known : (K : ℕ → Bool) (t n : ℕ) → (K t ≡ true → shapeAllows 
 unfolding shapeFor
 narrow-known K t n a = byBool (K t) (λ e. rw e (narrow-shape t n (shapeOf t) refl (a e))) (λ e. rw e tt)
 
-first-fits : {K : ℕ → Bool} {i : Item} {is : List Item} → AllFit K (i ∷ is) → K (i .piece .tag) ≡ true → shapeAllows (shapeOf (i .piece .tag)) (length (i .piece .value)) ≡ true
+first-fits : {K : ℕ → Bool} {i : Item} {is : List Item} → AllFit K (i ∷ is) → K (i .piece .tag) ≡ true
+    → shapeAllows (shapeOf (i .piece .tag)) (length (i .piece .value)) ≡ true
 first-fits (oneFits a f) = a
 
 rest-fits : {K : ℕ → Bool} {i : Item} {is : List Item} → AllFit K (i ∷ is) → AllFit K is

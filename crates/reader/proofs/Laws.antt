@@ -32,7 +32,8 @@ clear-none t k e h =
     rw none
 
 -- the four stores of a row
-pub row-stored : (t : List ℕ) (n : ℕ) (r : Row) → set (set (set (set t (4 * n) (r .tag)) (4 * n + 1) (r .kind)) (4 * n + 2) (r .code)) (4 * n + 3) (r .part) ≡ putRow t n r
+pub row-stored : (t : List ℕ) (n : ℕ) (r : Row)
+    → set (set (set (set t (4 * n) (r .tag)) (4 * n + 1) (r .kind)) (4 * n + 2) (r .code)) (4 * n + 3) (r .part) ≡ putRow t n r
 row-stored t n r =
     let w : ℕ = 4 * n in
     let e1 : w + 1 ≡ suc w = omega arith in
@@ -41,7 +42,8 @@ row-stored t n r =
     rw (e1, e2, e3)
 
 -- a row, then those of the rest
-pub row-more : (K : ℕ → Bool) (t : List ℕ) (n : ℕ) (i : Item) (is : List Item) → sets (putRow t n (rowOf K i)) (4 * (n + 1)) (words (rowsOf K is)) ≡ sets t (4 * n) (words (rowsOf K (i ∷ is)))
+pub row-more : (K : ℕ → Bool) (t : List ℕ) (n : ℕ) (i : Item) (is : List Item)
+    → sets (putRow t n (rowOf K i)) (4 * (n + 1)) (words (rowsOf K is)) ≡ sets t (4 * n) (words (rowsOf K (i ∷ is)))
 unfolding rowsOf words
 row-more K t n i is =
     let e : 4 * (n + 1) ≡ suc (suc (suc (suc (4 * n)))) = omega arith in
@@ -78,7 +80,8 @@ module _ (p : List ℕ) (by : Bytes p) (i : Header) (inside : i .place + i .size
   pub value-length : length (take (i .size) (drop (i .place) p)) ≡ i .size
   value-length = rw (length-take, length-drop) (omega arith)
 
-  pub narrow-value : i .size ≤ 8 → (v : ℕ) → v ≡ valueOf (take (i .place + i .size - i .place) (drop (i .place) p)) % 2 ^ 64 → v ≡ valueOf (take (i .size) (drop (i .place) p))
+  pub narrow-value : i .size ≤ 8 → (v : ℕ) → v ≡ valueOf (take (i .place + i .size - i .place) (drop (i .place) p)) % 2 ^ 64
+      → v ≡ valueOf (take (i .size) (drop (i .place) p))
   narrow-value narrow v e =
       let l : List ℕ = take (i .size) (drop (i .place) p) in
       let k : i .place + i .size - i .place ≡ i .size = omega arith in

@@ -58,7 +58,8 @@ fn code_at(packet: &[u8], shape: Shape, item: Header) -> u64
 
 // The row of an item.
 fn row_of(packet: &[u8], column: &[u8; 128], known: TagSet, item: Header) -> RowWords
-    requires { ⌜ (now column ≡ shapeColumn) × (item .place + item .size ≤ length (now packet)) × (length (now packet) ≤ 8192) × Narrow (shapeFor (holds known) (item .tag)) (item .size) ⌝ }
+    requires { ⌜ (now column ≡ shapeColumn) × (item .place + item .size ≤ length (now packet)) × (length (now packet) ≤ 8192)
+        × Narrow (shapeFor (holds known) (item .tag)) (item .size) ⌝ }
     ensures { λ r. ⌜ r ≡ rowOf (holds known) (itemBy (now (packet .entry)) item) ⌝ }
 {
     let shape = rows::shape_for(column, known, item.tag);

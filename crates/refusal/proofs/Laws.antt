@@ -8,7 +8,10 @@ use Rattle.refusal.specs.Numbers.{number}
 use Rattle.refusal.specs.Answer.{Answer, given, refused, refusal}
 use Rattle.refusal.specs.declared.Refusal.{Refusal}
 use Rattle.refusal.specs.declared.Reason.{Reason}
-use Rattle.refusal.specs.declared.Reason.the-variants.{SetNotGood, TableTooShort, PacketTooLong, KeyDiffers, OuterLengthWrong, TooManyItems, TagBroken, LengthBroken, FirstNotTimeStamp, LastNotChecksum, ChecksumDiffers, LengthNotAllowed, KnownTagTwice, CodeNotAllowed, VersionMissing, RowCountTooLarge, RowBad, OutputTooShort, NoScale, NotANumber, ValueOutOfRange}
+use Rattle.refusal.specs.declared.Reason.the-variants.{SetNotGood, TableTooShort, PacketTooLong, KeyDiffers, OuterLengthWrong, TooManyItems, TagBroken}
+use Rattle.refusal.specs.declared.Reason.the-variants.{LengthBroken, FirstNotTimeStamp, LastNotChecksum, ChecksumDiffers, LengthNotAllowed}
+use Rattle.refusal.specs.declared.Reason.the-variants.{KnownTagTwice, CodeNotAllowed, VersionMissing, RowCountTooLarge, RowBad, OutputTooShort}
+use Rattle.refusal.specs.declared.Reason.the-variants.{NoScale, NotANumber, ValueOutOfRange}
 
 reasons : List Reason
 reasons =

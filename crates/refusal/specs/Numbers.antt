@@ -1,7 +1,10 @@
 -- Document 01, "Refusals, by number": the number of each reason.
 use Prim.Native.Nat.{ℕ}
 use Rattle.refusal.specs.declared.Reason.{Reason}
-use Rattle.refusal.specs.declared.Reason.the-variants.{SetNotGood, TableTooShort, PacketTooLong, KeyDiffers, OuterLengthWrong, TooManyItems, TagBroken, LengthBroken, FirstNotTimeStamp, LastNotChecksum, ChecksumDiffers, LengthNotAllowed, KnownTagTwice, CodeNotAllowed, VersionMissing, RowCountTooLarge, RowBad, OutputTooShort, NoScale, NotANumber, ValueOutOfRange}
+use Rattle.refusal.specs.declared.Reason.the-variants.{SetNotGood, TableTooShort, PacketTooLong, KeyDiffers, OuterLengthWrong, TooManyItems}
+use Rattle.refusal.specs.declared.Reason.the-variants.{TagBroken, LengthBroken, FirstNotTimeStamp, LastNotChecksum, ChecksumDiffers}
+use Rattle.refusal.specs.declared.Reason.the-variants.{LengthNotAllowed, KnownTagTwice, CodeNotAllowed, VersionMissing, RowCountTooLarge, RowBad}
+use Rattle.refusal.specs.declared.Reason.the-variants.{OutputTooShort, NoScale, NotANumber, ValueOutOfRange}
 
 abbrev pub number : Reason → ℕ
 number SetNotGood = 1

@@ -23,7 +23,8 @@ allows-length-requires c κs = search needs
 
 returns-2 : tie.Need-returns-2
 unfolding shapeIn
-returns-2 c = rw (lt-leb 128 _ (c .before .before .before .before .if1 .left), ← c .before .before .wide .ensures .0, c .before .if2 .taken) (c .allows-length .ensures)
+returns-2 c =
+    rw (lt-leb 128 _ (c .before .before .before .before .if1 .left), ← c .before .before .wide .ensures .0, c .before .if2 .taken) (c .allows-length .ensures)
 
 returns-3 : tie.Need-returns-3
 unfolding shapeIn
@@ -31,7 +32,9 @@ returns-3 c = rw (← c .before .before .wide .ensures .0) (search cases)
 
 returns-4 : tie.Need-returns-4
 unfolding shapeIn
-returns-4 c = rw (← c .before .before .wide .ensures .0, lt-leb 128 _ (c .before .before .before .before .if1 .left)) (byte-allows _ _ (c .before .before .wide .ensures .1) (c .before .if2 .left) (c .if3 .left))
+returns-4 c =
+    rw (← c .before .before .wide .ensures .0, lt-leb 128 _ (c .before .before .before .before .if1 .left))
+    (byte-allows _ _ (c .before .before .wide .ensures .1) (c .before .if2 .left) (c .if3 .left))
 
 pub allows-length-at-spec : {M : Type 1} → statement M
 allows-length-at-spec =

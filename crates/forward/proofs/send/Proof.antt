@@ -40,7 +40,8 @@ array-share-prefix-out c = search needs
 
 slice-aggregate-write-all : tie.Need-slice-aggregate-write-all
 slice-aggregate-write-all c =
-    let long : length (c .before .before .before .before .before .before .forward .last .1 .1 .0) ≡ 8192 = c .before .before .before .before .before .before .forward .kept .1 .1 .0 in
+    let long : length (c .before .before .before .before .before .before .forward .last .1 .1 .0) ≡ 8192 =
+    c .before .before .before .before .before .before .forward .kept .1 .1 .0 in
     sym (length-take-le _ _ (omega (arith, long, c .before .if1 .taken)))
 
 write-all-requires : tie.Need-write-all-requires

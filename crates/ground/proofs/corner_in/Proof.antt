@@ -30,16 +30,25 @@ enum-told-4 : tie.Need-enum-told-4
 enum-told-4 c = search needs
 
 returns-3 : tie.Need-returns-3
-returns-3 c = by-offset _ _ (c .before .before .before .before .before .if1 .left) (c .before .before .before .before .if2 .left) (c .before .before .before .full-corner .result) (c .before .before .before .full-corner .ensures) (c .before .enum-told .given .1) (c .offset-corner .result) (c .offset-corner .ensures)
+returns-3 c =
+    by-offset _ _ (c .before .before .before .before .before .if1 .left) (c .before .before .before .before .if2 .left)
+    (c .before .before .before .full-corner .result) (c .before .before .before .full-corner .ensures) (c .before .enum-told .given .1)
+    (c .offset-corner .result) (c .offset-corner .ensures)
 
 returns-4 : tie.Need-returns-4
-returns-4 c = by-full _ _ (c .before .before .before .before .if1 .left) (c .before .before .before .if2 .left) (c .before .before .full-corner .result) (c .before .before .full-corner .ensures) _ (c .enum-told2 .given .1) tt
+returns-4 c =
+    by-full _ _ (c .before .before .before .before .if1 .left) (c .before .before .before .if2 .left) (c .before .before .full-corner .result)
+    (c .before .before .full-corner .ensures) _ (c .enum-told2 .given .1) tt
 
 returns-5 : tie.Need-returns-5
-returns-5 c = by-full _ _ (c .before .before .before .before .if1 .left) (c .before .before .before .if2 .left) (c .before .before .full-corner .result) (c .before .before .full-corner .ensures) _ (c .enum-told3 .given .1) tt
+returns-5 c =
+    by-full _ _ (c .before .before .before .before .if1 .left) (c .before .before .before .if2 .left) (c .before .before .full-corner .result)
+    (c .before .before .full-corner .ensures) _ (c .enum-told3 .given .1) tt
 
 returns-6 : tie.Need-returns-6
-returns-6 c = by-full _ _ (c .before .before .before .before .if1 .left) (c .before .before .before .if2 .left) (c .before .before .full-corner .result) (c .before .before .full-corner .ensures) _ (c .enum-told4 .given .1) tt
+returns-6 c =
+    by-full _ _ (c .before .before .before .before .if1 .left) (c .before .before .before .if2 .left) (c .before .before .full-corner .result)
+    (c .before .before .full-corner .ensures) _ (c .enum-told4 .given .1) tt
 
 pub corner-in-spec : {M : Type 1} → statement M
 corner-in-spec =

@@ -39,7 +39,8 @@ enum-told-4 c = search needs
 returns : tie.Need-returns
 returns c =
     let fits : SFits w64 (c .before .over .given .0 .0) = search needs in
-    ap (λ z. given (overEllipsoid z)) (toZ-ofZ fits) ∙ height-told _ _ _ _ _ _ _ (c .before .before .before .value-in .ensures) refl (c .before .over .given .1) refl
+    ap (λ z. given (overEllipsoid z)) (toZ-ofZ fits)
+    ∙ height-told _ _ _ _ _ _ _ (c .before .before .before .value-in .ensures) refl (c .before .over .given .1) refl
 
 returns-2 : tie.Need-returns-2
 returns-2 c = height-told _ _ _ _ _ Off _ (c .before .before .value-in .ensures) refl (c .enum-told .given .1) refl
@@ -47,13 +48,19 @@ returns-2 c = height-told _ _ _ _ _ Off _ (c .before .before .value-in .ensures)
 returns-3 : tie.Need-returns-3
 returns-3 c =
     let fits : SFits w64 (c .before .above .given .0 .0) = search needs in
-    ap (λ z. given (overSeaLevel z)) (toZ-ofZ fits) ∙ height-told _ _ _ _ _ Absent _ (c .before .before .before .before .before .before .value-in .ensures) (c .before .before .before .value-in2 .ensures) (c .before .before .before .before .enum-told2 .given .1) (c .before .above .given .1)
+    ap (λ z. given (overSeaLevel z)) (toZ-ofZ fits)
+    ∙ height-told _ _ _ _ _ Absent _ (c .before .before .before .before .before .before .value-in .ensures) (c .before .before .before .value-in2 .ensures)
+    (c .before .before .before .before .enum-told2 .given .1) (c .before .above .given .1)
 
 returns-4 : tie.Need-returns-4
-returns-4 c = height-told _ _ _ _ _ Absent Off (c .before .before .before .before .before .value-in .ensures) (c .before .before .value-in2 .ensures) (c .before .before .before .enum-told2 .given .1) (c .enum-told3 .given .1)
+returns-4 c =
+    height-told _ _ _ _ _ Absent Off (c .before .before .before .before .before .value-in .ensures) (c .before .before .value-in2 .ensures)
+    (c .before .before .before .enum-told2 .given .1) (c .enum-told3 .given .1)
 
 returns-5 : tie.Need-returns-5
-returns-5 c = height-told _ _ _ _ _ Absent Absent (c .before .before .before .before .before .value-in .ensures) (c .before .before .value-in2 .ensures) (c .before .before .before .enum-told2 .given .1) (c .enum-told4 .given .1)
+returns-5 c =
+    height-told _ _ _ _ _ Absent Absent (c .before .before .before .before .before .value-in .ensures) (c .before .before .value-in2 .ensures)
+    (c .before .before .before .enum-told2 .given .1) (c .enum-told4 .given .1)
 
 pub height-in-spec : {M : Type 1} → statement M
 height-in-spec =

@@ -59,7 +59,8 @@ returns-7 : tie.Need-returns-7
 returns-7 c =
     let north : SFits w64 (c .before .before .before .before .latitude .given .0 .0) = search needs in
     let east : SFits w64 (c .before .longitude .given .0 .0) = search needs in
-    ap₂ (λ a b. given (on a b)) (toZ-ofZ north) (toZ-ofZ east) ∙ ap₂ (λ a b. given (pointOf a b)) (sym (c .before .before .before .before .latitude .given .1)) (sym (c .before .longitude .given .1))
+    ap₂ (λ a b. given (on a b)) (toZ-ofZ north) (toZ-ofZ east)
+    ∙ ap₂ (λ a b. given (pointOf a b)) (sym (c .before .before .before .before .latitude .given .1)) (sym (c .before .longitude .given .1))
 
 pub point-of-spec : {M : Type 1} → statement M
 point-of-spec =

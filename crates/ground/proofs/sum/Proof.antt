@@ -43,7 +43,9 @@ add-t8 : tie.Need-add-t8
 add-t8 c =
     let from : SFits w64 (c .before .before .before .before .centre .given .0 .0) = search needs in
     let by : SFits w64 (c .before .offset .given .0 .0) = search needs in
-    rw (toZ-ofZ from, toZ-ofZ by) (both-small (c .before .before .before .before .centre .given .1) (c .before .offset .given .1) (c .before .before .before .before .before .before .pre .0) (c .before .before .before .before .before .before .pre .1))
+    rw (toZ-ofZ from, toZ-ofZ by)
+    (both-small (c .before .before .before .before .centre .given .1) (c .before .offset .given .1)
+    (c .before .before .before .before .before .before .pre .0) (c .before .before .before .before .before .before .pre .1))
 
 returns : tie.Need-returns
 returns c = search needs
@@ -67,7 +69,11 @@ returns-7 : tie.Need-returns-7
 returns-7 c =
     let from : SFits w64 (c .before .before .before .before .centre .given .0 .0) = search needs in
     let by : SFits w64 (c .before .offset .given .0 .0) = search needs in
-    ap At (ap₂ (λ a b. toZ w64 (ofZ w64 (a +ℤ b))) (toZ-ofZ from) (toZ-ofZ by) ∙ toZ-ofZ (both-small (c .before .before .before .before .centre .given .1) (c .before .offset .given .1) (c .before .before .before .before .before .before .pre .0) (c .before .before .before .before .before .before .pre .1))) ∙ ap₂ sumOf (sym (c .before .before .before .before .centre .given .1)) (sym (c .before .offset .given .1))
+    ap At (ap₂ (λ a b. toZ w64 (ofZ w64 (a +ℤ b))) (toZ-ofZ from) (toZ-ofZ by)
+    ∙ toZ-ofZ
+    (both-small (c .before .before .before .before .centre .given .1) (c .before .offset .given .1)
+    (c .before .before .before .before .before .before .pre .0) (c .before .before .before .before .before .before .pre .1)))
+    ∙ ap₂ sumOf (sym (c .before .before .before .before .centre .given .1)) (sym (c .before .offset .given .1))
 
 pub sum-spec : {M : Type 1} → statement M
 sum-spec =

@@ -31,7 +31,10 @@ value-of-requires : tie.Need-value-of-requires Inv-loop μ-loop
 value-of-requires c κs = both-right (eqb (c .before .before .row-at .result .tag) _) _ (sym (c .before .is-present .ensures) ∙ c .if1 .taken)
 
 returns : tie.Need-returns Inv-loop μ-loop
-returns c = c .value-of .ensures ∙ (this-row _ _ _ _ (c .before .before .before .before .loop-test .taken) _ (c .before .before .before .row-at .ensures) _ (c .before .before .is-present .ensures) (c .before .if1 .taken) ∙ c .before .before .before .before .before .loop .inv .1)
+returns c =
+    c .value-of .ensures
+    ∙ (this-row _ _ _ _ (c .before .before .before .before .loop-test .taken) _ (c .before .before .before .row-at .ensures) _
+    (c .before .before .is-present .ensures) (c .before .if1 .taken) ∙ c .before .before .before .before .before .loop .inv .1)
 
 add-n : tie.Need-add-n Inv-loop μ-loop
 add-n c = omega (arith, c .before .before .before .loop-test .taken, c .before .before .before .before .before .before .good)
@@ -40,7 +43,11 @@ loop-less : tie.Need-loop-less Inv-loop μ-loop
 loop-less c = omega (arith, c .before .before .before .loop-test .taken)
 
 loop-again : tie.Need-loop-again Inv-loop μ-loop
-loop-again c = (omega (arith, c .before .before .before .loop-test .taken), next-row _ _ _ _ (c .before .before .before .loop-test .taken) _ (c .before .before .row-at .ensures) _ (c .before .is-present .ensures) (c .if1 .left) ∙ c .before .before .before .before .loop .inv .1)
+loop-again c = (
+  omega (arith, c .before .before .before .loop-test .taken),
+  next-row _ _ _ _ (c .before .before .before .loop-test .taken) _
+      (c .before .before .row-at .ensures) _ (c .before .is-present .ensures) (c .if1 .left) ∙ c .before .before .before .before .loop .inv .1,
+)
 
 returns-2 : tie.Need-returns-2 Inv-loop μ-loop
 returns-2 c = sym (no-row _ _ _ _ (c .loop-test .left)) ∙ c .before .loop .inv .1

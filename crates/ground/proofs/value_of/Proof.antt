@@ -27,11 +27,16 @@ enum-told c = search needs
 returns-2 : tie.Need-returns-2
 returns-2 c =
     let fits : SFits w64 (c .before .before .house .given .0 .0 .value) = search needs in
-    ap At (toZ-ofZ fits) ∙ (ap (λ h. inHouse (houseSaid h)) (sym (c .before .before .house .given .1)) ∙ a-reading _ (c .before .before .before .before .before .before .before .pre) (c .before .before .before .before .before .if1 .left) (c .before .before .before .before .to-house .result) (c .before .before .before .before .to-house .ensures))
+    ap At (toZ-ofZ fits)
+    ∙ (ap (λ h. inHouse (houseSaid h)) (sym (c .before .before .house .given .1))
+    ∙ a-reading _ (c .before .before .before .before .before .before .before .pre) (c .before .before .before .before .before .if1 .left)
+    (c .before .before .before .before .to-house .result) (c .before .before .before .before .to-house .ensures))
 
 returns-3 : tie.Need-returns-3
 returns-3 c =
-    ap (λ h. inHouse (houseSaid h)) (sym (c .enum-told .given .1)) ∙ a-reading _ (c .before .before .before .before .before .pre) (c .before .before .before .if1 .left) (c .before .before .to-house .result) (c .before .before .to-house .ensures)
+    ap (λ h. inHouse (houseSaid h)) (sym (c .enum-told .given .1))
+    ∙ a-reading _ (c .before .before .before .before .before .pre) (c .before .before .before .if1 .left) (c .before .before .to-house .result)
+    (c .before .before .to-house .ensures)
 
 pub value-of-spec : {M : Type 1} → statement M
 value-of-spec =

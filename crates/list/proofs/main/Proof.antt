@@ -40,7 +40,8 @@ array-share-prefix-out c = search needs
 
 slice-aggregate-write-all : tie.Need-slice-aggregate-write-all
 slice-aggregate-write-all c =
-    let long : length (c .before .before .before .before .before .before .list .last .1 .0) ≡ 21781 = c .before .before .before .before .before .before .list .kept .1 .0 in
+    let long : length (c .before .before .before .before .before .before .list .last .1 .0) ≡ 21781 =
+    c .before .before .before .before .before .before .list .kept .1 .0 in
     sym (length-take-le _ _ (omega (arith, long, c .before .if1 .taken)))
 
 write-all-requires : tie.Need-write-all-requires

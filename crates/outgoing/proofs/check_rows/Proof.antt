@@ -12,7 +12,13 @@ use Rattle.outgoing.proofs.check_rows.Statement.{statement}
 use Rattle.outgoing.proofs.check_rows.Tie as tie
 
 words : (c : tie.Then2) → Words (c .before .before .before .before .before .before .args .known)
-words c = record { low64 = omega (arith, c .before .before .before .before .before .before .good); high64 = omega (arith, c .before .before .before .before .before .before .good) }
+words c =
+    record {
+      low64 =
+          omega (arith, c .before .before .before .before .before .before .good);
+      high64 =
+          omega (arith, c .before .before .before .before .before .before .good);
+    }
 
 is-good-requires : tie.Need-is-good-requires
 is-good-requires c κs = search needs
@@ -35,14 +41,18 @@ enum-told c = search needs
 sized-requires : tie.Need-sized-requires
 sized-requires c κs =
     let k = c .before .before .before .before .before .before in
-    let a = k .before .before .before .before .before .before .args in
-    (c .before .before .before .before .before .shapes .ensures, count-good (a .count) (length (a .words .now)) (sym (k .before .is-good-count .ensures) ∙ k .if2 .taken) .0)
+    let a = k .before .before .before .before .before .before .args in (
+      c .before .before .before .before .before .shapes .ensures,
+      count-good (a .count) (length (a .words .now)) (sym (k .before .is-good-count .ensures)
+          ∙ k .if2 .taken) .0,
+    )
 
 returns : tie.Need-returns
 returns c =
     let f = c .before .before .before in
     let k = f .before .before .before in
-    sym (rows-bad _ (words k) _ _ _ (sym (k .before .before .before .is-good .ensures) ∙ k .before .before .if1 .taken) (sym (k .before .is-good-count .ensures) ∙ k .if2 .taken) _ _ _
+    sym (rows-bad _ (words k) _ _ _ (sym (k .before .before .before .is-good .ensures)
+    ∙ k .before .before .if1 .taken) (sym (k .before .is-good-count .ensures) ∙ k .if2 .taken) _ _ _
     (sym (f .rows-right .ensures) ∙ ap rightSaid (c .before .refusal .given .1)))
 
 returns-2 : tie.Need-returns-2
@@ -50,7 +60,8 @@ returns-2 c =
     let f = c .before .before .before .before in
     let k = f .before .before .before in
     c .sized .ensures
-    ∙ sym (rows-good _ (words k) _ _ _ (sym (k .before .before .before .is-good .ensures) ∙ k .before .before .if1 .taken) (sym (k .before .is-good-count .ensures) ∙ k .if2 .taken)
+    ∙ sym (rows-good _ (words k) _ _ _ (sym (k .before .before .before .is-good .ensures)
+    ∙ k .before .before .if1 .taken) (sym (k .before .is-good-count .ensures) ∙ k .if2 .taken)
     (sym (f .rows-right .ensures) ∙ ap rightSaid (c .before .before .enum-told .given .1)))
 
 refused-requires : tie.Need-refused-requires
@@ -60,7 +71,8 @@ returns-3 : tie.Need-returns-3
 returns-3 c =
     let k = c .before in
     c .refused .ensures
-    ∙ sym (too-many _ _ _ _ (sym (k .before .before .before .is-good .ensures) ∙ k .before .before .if1 .taken) (sym (k .before .is-good-count .ensures) ∙ k .if2 .left))
+    ∙ sym (too-many _ _ _ _ (sym (k .before .before .before .is-good .ensures) ∙ k .before .before .if1 .taken) (sym (k .before .is-good-count .ensures)
+    ∙ k .if2 .left))
 
 refused-requires-2 : tie.Need-refused-requires-2
 refused-requires-2 c κs = search needs

@@ -34,7 +34,8 @@ returns : tie.Need-returns Inv-loop μ-loop
 returns c =
     let f = c .before .before .before in
     let l = f .before .before .before in
-    sym (judged-wrong _ _ _ (f .before .before .loop-test .taken) _ (f .before .row-at .ensures) _ _ _ (sym (ap faultSaid (c .before .reason .given .1)) ∙ f .fault-at .ensures))
+    sym (judged-wrong _ _ _ (f .before .before .loop-test .taken) _ (f .before .row-at .ensures) _ _ _ (sym (ap faultSaid (c .before .reason .given .1))
+    ∙ f .fault-at .ensures))
     ∙ l .loop .inv
 
 enum-told : tie.Need-enum-told Inv-loop μ-loop
@@ -54,7 +55,8 @@ loop-again c =
     let f = c .before .before .before in
     let l = f .before .before .before in
     rw (c .with-tag .ensures)
-    (sym (judged-more _ _ _ (f .before .before .loop-test .taken) _ (f .before .row-at .ensures) _ _ (sym (ap faultSaid (c .before .enum-told .given .1)) ∙ f .fault-at .ensures))
+    (sym (judged-more _ _ _ (f .before .before .loop-test .taken) _ (f .before .row-at .ensures) _ _ (sym (ap faultSaid (c .before .enum-told .given .1))
+    ∙ f .fault-at .ensures))
     ∙ l .loop .inv)
 
 has-requires : tie.Need-has-requires Inv-loop μ-loop

@@ -13,10 +13,12 @@ length-size-requires : tie.Need-length-size-requires
 length-size-requires c κs = search needs
 
 add-result : tie.Need-add-result
-add-result c = let s = row-small (c .before .before .before .args .row) in omega (arith, s .tag, s .head, s .value, c .before .tag-size .ensures, c .length-size .ensures)
+add-result c =
+    let s = row-small (c .before .before .before .args .row) in omega (arith, s .tag, s .head, s .value, c .before .tag-size .ensures, c .length-size .ensures)
 
 add-result-2 : tie.Need-add-result-2
-add-result-2 c = let s = row-small (c .before .before .before .args .row) in omega (arith, s .tag, s .head, s .value, c .before .tag-size .ensures, c .length-size .ensures)
+add-result-2 c =
+    let s = row-small (c .before .before .before .args .row) in omega (arith, s .tag, s .head, s .value, c .before .tag-size .ensures, c .length-size .ensures)
 
 returns : tie.Need-returns
 returns c = search needs

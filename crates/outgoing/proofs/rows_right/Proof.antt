@@ -14,7 +14,8 @@ use Rattle.outgoing.proofs.rows_right.Statement.{statement}
 use Rattle.outgoing.proofs.rows_right.Tie as tie
 
 abbrev Inv-loop : tie.InvT-loop
-Inv-loop column known count words room n₀ n = rightRows (holds known) room n (rowsIn n (count - n) words) ≡ rightRows (holds known) room 0 (rowsIn 0 count words)
+Inv-loop column known count words room n₀ n =
+    rightRows (holds known) room n (rowsIn n (count - n) words) ≡ rightRows (holds known) room 0 (rowsIn 0 count words)
 
 abbrev μ-loop : tie.MeasureT-loop
 μ-loop column known count words room n₀ n = count - n
@@ -43,7 +44,8 @@ loop-again c =
     let l = s .before .before .before in
     let a = l .before .before .args in
     let shape = s .shape-for .ensures ∙ shape-by-column (holds (a .known)) _ (s .before .row-at .result .tag) (l .before .before .pre) in
-    sym (good-more _ _ _ (s .before .before .loop-test .taken) _ (s .before .row-at .ensures) (holds (a .known)) (a .room) _ shape (sym (c .before .is-good-row .ensures) ∙ c .if1 .taken))
+    sym (good-more _ _ _ (s .before .before .loop-test .taken) _ (s .before .row-at .ensures) (holds (a .known)) (a .room) _ shape
+    (sym (c .before .is-good-row .ensures) ∙ c .if1 .taken))
     ∙ l .loop .inv
 
 tag-shown-requires : tie.Need-tag-shown-requires Inv-loop μ-loop
@@ -56,7 +58,8 @@ returns c =
     let a = l .before .before .args in
     let shape = s .shape-for .ensures ∙ shape-by-column (holds (a .known)) _ (s .before .row-at .result .tag) (l .before .before .pre) in
     rw (c .tag-shown .ensures)
-    (sym (good-bad _ _ _ (s .before .before .loop-test .taken) _ (s .before .row-at .ensures) (holds (a .known)) (a .room) _ shape (sym (c .before .before .is-good-row .ensures) ∙ c .before .if1 .left))
+    (sym (good-bad _ _ _ (s .before .before .loop-test .taken) _ (s .before .row-at .ensures) (holds (a .known)) (a .room) _ shape
+    (sym (c .before .before .is-good-row .ensures) ∙ c .before .if1 .left))
     ∙ l .loop .inv)
 
 returns-2 : tie.Need-returns-2 Inv-loop μ-loop

@@ -18,7 +18,12 @@ abbrev μ-loop : tie.MeasureT-loop
 μ-loop count words size₀ n₀ size n = count - n
 
 -- what the loop's row adds
-now : (c : tie.After-row-size Inv-loop μ-loop) → rowsSize (rowsIn (c .before .before .before .loop .n) (c .before .before .before .before .before .args .count - c .before .before .before .loop .n) (c .before .before .before .before .before .args .words .now)) ≡ c .row-size .result + rowsSize (rowsIn (c .before .before .before .loop .n + 1) (c .before .before .before .before .before .args .count - (c .before .before .before .loop .n + 1)) (c .before .before .before .before .before .args .words .now))
+now : (c : tie.After-row-size Inv-loop μ-loop)
+    → rowsSize
+    (rowsIn (c .before .before .before .loop .n) (c .before .before .before .before .before .args .count - c .before .before .before .loop .n)
+    (c .before .before .before .before .before .args .words .now)) ≡ c .row-size .result + rowsSize
+    (rowsIn (c .before .before .before .loop .n + 1) (c .before .before .before .before .before .args .count - (c .before .before .before .loop .n + 1))
+    (c .before .before .before .before .before .args .words .now))
 now c = rw (c .row-size .ensures, c .before .row-at .ensures) (size-more _ _ _ (c .before .before .loop-test .taken))
 
 loop-holds : tie.Need-loop-holds Inv-loop μ-loop
@@ -45,7 +50,8 @@ loop-again : tie.Need-loop-again Inv-loop μ-loop
 loop-again c = omega (arith, now c)
 
 returns : tie.Need-returns Inv-loop μ-loop
-returns c = omega (arith, size-end (c .before .before .before .args .words .now) (c .before .before .before .args .count) (c .before .loop .n) (c .loop-test .left))
+returns c =
+    omega (arith, size-end (c .before .before .before .args .words .now) (c .before .before .before .args .count) (c .before .loop .n) (c .loop-test .left))
 
 pub rows-size-spec : {M : Type 1} → statement M
 rows-size-spec =

@@ -28,7 +28,9 @@ returns-2 : tie.Need-returns-2
 returns-2 c =
     let a = c .before .before .before .before .before .args in
     let z = c .before .before .before .packet-size in
-    let step : sizedBy (a .known) (a .count) (a .words .now) (z .result) ≡ closedIn (a .known) (a .count) (a .words .now) (z .result) = rw (le-ltb 8192 (z .result .size) (c .before .if1 .left)) in
+    let step : sizedBy (a .known) (a .count) (a .words .now) (z .result)
+    ≡ closedIn (a .known) (a .count) (a .words .now) (z .result) =
+    rw (le-ltb 8192 (z .result .size) (c .before .if1 .left)) in
     c .closed .ensures ∙ (sym step ∙ ap (sizedBy (a .known) (a .count) (a .words .now)) (z .ensures))
 
 pub sized-spec : {M : Type 1} → statement M

@@ -44,12 +44,14 @@ returns-2 c = c .measured .ensures ∙ ap (λ h. saying heightAnswer (heightSaid
 returns-3 : tie.Need-returns-3
 returns-3 c =
     let fits : SFits w64 (c .before .before .before .height2 .given .0 .0 .0) = search needs in
-    c .measured2 .ensures ∙ (ap (λ z. measuring 1 z (pos 0)) (toZ-ofZ fits) ∙ ap (λ h. saying heightAnswer (heightSaid h)) (sym (c .before .before .before .height2 .given .1)))
+    c .measured2 .ensures
+    ∙ (ap (λ z. measuring 1 z (pos 0)) (toZ-ofZ fits) ∙ ap (λ h. saying heightAnswer (heightSaid h)) (sym (c .before .before .before .height2 .given .1)))
 
 returns-4 : tie.Need-returns-4
 returns-4 c =
     let fits : SFits w64 (c .before .before .before .height3 .given .0 .0 .0) = search needs in
-    c .measured3 .ensures ∙ (ap (λ z. measuring 2 z (pos 0)) (toZ-ofZ fits) ∙ ap (λ h. saying heightAnswer (heightSaid h)) (sym (c .before .before .before .height3 .given .1)))
+    c .measured3 .ensures
+    ∙ (ap (λ z. measuring 2 z (pos 0)) (toZ-ofZ fits) ∙ ap (λ h. saying heightAnswer (heightSaid h)) (sym (c .before .before .before .height3 .given .1)))
 
 pub height-found-spec : {M : Type 1} → statement M
 height-found-spec =

@@ -48,7 +48,9 @@ returns-3 : tie.Need-returns-3
 returns-3 c =
     let north : SFits w64 (c .before .before .before .before .point .given .0 .0 .latitude) = search needs in
     let east : SFits w64 (c .before .before .before .before .point .given .0 .0 .longitude) = search needs in
-    c .measured2 .ensures ∙ (ap₂ (measuring 1) (toZ-ofZ north) (toZ-ofZ east) ∙ said cornerAnswer cornerSaid (c .before .before .before .before .point .given .1) (c .before .before .before .before .before .before .corner-at .ensures))
+    c .measured2 .ensures
+    ∙ (ap₂ (measuring 1) (toZ-ofZ north) (toZ-ofZ east)
+    ∙ said cornerAnswer cornerSaid (c .before .before .before .before .point .given .1) (c .before .before .before .before .before .before .corner-at .ensures))
 
 returns-4 : tie.Need-returns-4
 returns-4 c = c .measured3 .ensures ∙ said cornerAnswer cornerSaid (c .before .enum-told2 .given .1) (c .before .before .before .corner-at .ensures)

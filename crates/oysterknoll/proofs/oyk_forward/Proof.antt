@@ -27,13 +27,21 @@ same-length : tie.Need-same-length
 same-length c = search needs
 
 returns : tie.Need-returns
-returns c = (c .refused .ensures ∙ said writing forwardSaid (c .before .before .refusal .given .1) (c .before .before .before .before .before .before .forward .ensures .answer), c .before .before .before .before .before .before .forward .ensures .output)
+returns c = (
+  c .refused .ensures
+      ∙ said writing forwardSaid (c .before .before .refusal .given .1) (c .before .before .before .before .before .before .forward .ensures .answer),
+  c .before .before .before .before .before .before .forward .ensures .output,
+)
 
 same-length-2 : tie.Need-same-length-2
 same-length-2 c = search needs
 
 returns-2 : tie.Need-returns-2
-returns-2 c = (c .counted .ensures ∙ said writing forwardSaid (c .before .before .sent .given .1) (c .before .before .before .before .before .before .forward .ensures .answer), c .before .before .before .before .before .before .forward .ensures .output)
+returns-2 c = (
+  c .counted .ensures
+      ∙ said writing forwardSaid (c .before .before .sent .given .1) (c .before .before .before .before .before .before .forward .ensures .answer),
+  c .before .before .before .before .before .before .forward .ensures .output,
+)
 
 pub oyk-forward-spec : {M : Type 1} → statement M
 oyk-forward-spec =

@@ -37,19 +37,35 @@ counted-requires : tie.Need-counted-requires
 counted-requires c κs = search needs
 
 returns : tie.Need-returns
-returns c = let l = not-listed _ _ _ _ (c .before .before .before .before .before .all-tags .ensures) (c .before .before .before .before .check .ensures) _ (c .before .before .refusal .given .1) in (c .refused .ensures ∙ l .0, l .1)
+returns c =
+    let l =
+    not-listed _ _ _ _ (c .before .before .before .before .before .all-tags .ensures)
+    (c .before .before .before .before .check .ensures) _ (c .before .before .refusal .given .1) in
+    (c .refused .ensures ∙ l .0, l .1)
 
 same-length : tie.Need-same-length
 same-length c = search needs
 
 returns-2 : tie.Need-returns-2
-returns-2 c = let l = then-listed _ _ _ _ (c .before .before .before .before .before .before .before .before .before .before .before .all-tags .ensures) (c .before .before .before .before .before .before .before .before .before .before .check .ensures) _ (c .before .before .before .before .before .before .before .before .enum-told .given .1) _ _ (c .before .before .before .before .before .before .list .ensures) _ (c .before .before .refusal2 .given .1) in (c .refused2 .ensures ∙ l .0, l .1)
+returns-2 c =
+    let l =
+    then-listed _ _ _ _ (c .before .before .before .before .before .before .before .before .before .before .before .all-tags .ensures)
+    (c .before .before .before .before .before .before .before .before .before .before .check .ensures) _
+    (c .before .before .before .before .before .before .before .before .enum-told .given .1) _ _
+    (c .before .before .before .before .before .before .list .ensures) _ (c .before .before .refusal2 .given .1) in
+    (c .refused2 .ensures ∙ l .0, l .1)
 
 same-length-2 : tie.Need-same-length-2
 same-length-2 c = search needs
 
 returns-3 : tie.Need-returns-3
-returns-3 c = let l = then-listed _ _ _ _ (c .before .before .before .before .before .before .before .before .before .before .before .all-tags .ensures) (c .before .before .before .before .before .before .before .before .before .before .check .ensures) _ (c .before .before .before .before .before .before .before .before .enum-told .given .1) _ _ (c .before .before .before .before .before .before .list .ensures) _ (c .before .before .listed .given .1) in (c .counted .ensures ∙ l .0, l .1)
+returns-3 c =
+    let l =
+    then-listed _ _ _ _ (c .before .before .before .before .before .before .before .before .before .before .before .all-tags .ensures)
+    (c .before .before .before .before .before .before .before .before .before .before .check .ensures) _
+    (c .before .before .before .before .before .before .before .before .enum-told .given .1) _ _
+    (c .before .before .before .before .before .before .list .ensures) _ (c .before .before .listed .given .1) in
+    (c .counted .ensures ∙ l .0, l .1)
 
 pub oyk-list-spec : {M : Type 1} → statement M
 oyk-list-spec =

@@ -27,13 +27,21 @@ same-length : tie.Need-same-length
 same-length c = search needs
 
 returns : tie.Need-returns
-returns c = (c .refused .ensures ∙ said filling readSaid (c .before .before .refusal .given .1) (c .before .before .before .before .before .before .read .ensures .answer), c .before .before .before .before .before .before .read .ensures .table)
+returns c = (
+  c .refused .ensures
+      ∙ said filling readSaid (c .before .before .refusal .given .1) (c .before .before .before .before .before .before .read .ensures .answer),
+  c .before .before .before .before .before .before .read .ensures .table,
+)
 
 same-length-2 : tie.Need-same-length-2
 same-length-2 c = search needs
 
 returns-2 : tie.Need-returns-2
-returns-2 c = (c .counted .ensures ∙ said filling readSaid (c .before .before .filled .given .1) (c .before .before .before .before .before .before .read .ensures .answer), c .before .before .before .before .before .before .read .ensures .table)
+returns-2 c = (
+  c .counted .ensures
+      ∙ said filling readSaid (c .before .before .filled .given .1) (c .before .before .before .before .before .before .read .ensures .answer),
+  c .before .before .before .before .before .before .read .ensures .table,
+)
 
 pub oyk-read-spec : {M : Type 1} → statement M
 oyk-read-spec =

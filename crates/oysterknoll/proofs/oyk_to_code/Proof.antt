@@ -30,12 +30,16 @@ counted-requires c κs = search needs
 returns : tie.Need-returns
 returns c =
     let fits : SFits w64 (c .before .before .before .before .before .args .value) = search needs in
-    c .refused .ensures ∙ said coding codeSaid (c .before .before .refusal .given .1) (c .before .before .before .before .to-code .ensures ∙ ap (toCode (c .before .before .before .before .before .args .tag)) (toZ-ofZ fits))
+    c .refused .ensures
+    ∙ said coding codeSaid (c .before .before .refusal .given .1) (c .before .before .before .before .to-code .ensures
+    ∙ ap (toCode (c .before .before .before .before .before .args .tag)) (toZ-ofZ fits))
 
 returns-2 : tie.Need-returns-2
 returns-2 c =
     let fits : SFits w64 (c .before .before .before .before .before .args .value) = search needs in
-    c .counted .ensures ∙ said coding codeSaid (c .before .before .code .given .1) (c .before .before .before .before .to-code .ensures ∙ ap (toCode (c .before .before .before .before .before .args .tag)) (toZ-ofZ fits))
+    c .counted .ensures
+    ∙ said coding codeSaid (c .before .before .code .given .1) (c .before .before .before .before .to-code .ensures
+    ∙ ap (toCode (c .before .before .before .before .before .args .tag)) (toZ-ofZ fits))
 
 pub oyk-to-code-spec : {M : Type 1} → statement M
 oyk-to-code-spec =

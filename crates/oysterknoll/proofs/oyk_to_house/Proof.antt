@@ -33,7 +33,9 @@ returns c = c .refused .ensures ∙ said valuing houseSaid (c .before .before .r
 returns-2 : tie.Need-returns-2
 returns-2 c =
     let fits : SFits w64 (c .before .before .before .house .given .0 .0 .value) = search needs in
-    c .measured .ensures ∙ (ap (λ v. measuring 0 v (pos 0)) (toZ-ofZ fits) ∙ said valuing houseSaid (c .before .before .before .house .given .1) (c .before .before .before .before .before .to-house .ensures))
+    c .measured .ensures
+    ∙ (ap (λ v. measuring 0 v (pos 0)) (toZ-ofZ fits)
+    ∙ said valuing houseSaid (c .before .before .before .house .given .1) (c .before .before .before .before .before .to-house .ensures))
 
 pub oyk-to-house-spec : {M : Type 1} → statement M
 oyk-to-house-spec =

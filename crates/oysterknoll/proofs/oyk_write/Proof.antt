@@ -27,13 +27,21 @@ same-length : tie.Need-same-length
 same-length c = search needs
 
 returns : tie.Need-returns
-returns c = (c .refused .ensures ∙ said writing writeSaid (c .before .before .refusal .given .1) (c .before .before .before .before .before .before .write .ensures .answer), c .before .before .before .before .before .before .write .ensures .output)
+returns c = (
+  c .refused .ensures
+      ∙ said writing writeSaid (c .before .before .refusal .given .1) (c .before .before .before .before .before .before .write .ensures .answer),
+  c .before .before .before .before .before .before .write .ensures .output,
+)
 
 same-length-2 : tie.Need-same-length-2
 same-length-2 c = search needs
 
 returns-2 : tie.Need-returns-2
-returns-2 c = (c .counted .ensures ∙ said writing writeSaid (c .before .before .written .given .1) (c .before .before .before .before .before .before .write .ensures .answer), c .before .before .before .before .before .before .write .ensures .output)
+returns-2 c = (
+  c .counted .ensures
+      ∙ said writing writeSaid (c .before .before .written .given .1) (c .before .before .before .before .before .before .write .ensures .answer),
+  c .before .before .before .before .before .before .write .ensures .output,
+)
 
 pub oyk-write-spec : {M : Type 1} → statement M
 oyk-write-spec =

@@ -15,16 +15,24 @@ use Rattle.packet.proofs.any_item_at.Tie as tie
 bytes : (c : tie.After-shared-slice-known) → Bytes (c .before .args .packet .now)
 bytes c = record { byte = λ i. c .shared-slice-known .given i .fits }
 
-tagged : (c : tie.After-known-told) → readTag (drop (c .before .before .before .before .before .args .at) (c .before .before .before .before .before .args .packet .now)) ≡ got (c .before .tag .given .0 .0) (c .before .tag .given .0 .1 .0)
+tagged : (c : tie.After-known-told)
+    → readTag (drop (c .before .before .before .before .before .args .at) (c .before .before .before .before .before .args .packet .now)) ≡ got
+    (c .before .tag .given .0 .0) (c .before .tag .given .0 .1 .0)
 tagged c = sym (c .before .before .before .tag-at .ensures) ∙ ap seen (c .before .tag .given .1)
 
-tag-in : (c : tie.After-known-told) → c .before .before .before .before .before .args .at + c .before .tag .given .0 .1 .0 ≤ length (c .before .before .before .before .before .args .packet .now)
+tag-in : (c : tie.After-known-told)
+    → c .before .before .before .before .before .args .at + c .before .tag .given .0 .1 .0 ≤ length
+    (c .before .before .before .before .before .args .packet .now)
 tag-in c = tag-inside _ _ _ _ (tagged c) (bytes (c .before .before .before .before)) .1
 
-sized : (c : tie.After-known-told2) → readLength (drop (c .before .before .before .before .before .before .before .before .before .args .at + c .before .before .before .before .before .tag .given .0 .1 .0) (c .before .before .before .before .before .before .before .before .before .args .packet .now)) ≡ got (c .before .length .given .0 .0) (c .before .length .given .0 .1 .0)
+sized : (c : tie.After-known-told2)
+    → (let a = c .before .before .before .before .before .before .before .before .before .args in
+    readLength (drop (a .at + c .before .before .before .before .before .tag .given .0 .1 .0) (a .packet .now)) ≡ got (c .before .length .given .0 .0) (c .before .length .given .0 .1 .0))
 sized c = sym (c .before .before .before .length-at .ensures) ∙ ap seen (c .before .length .given .1)
 
-length-in : (c : tie.After-known-told2) → c .before .before .before .before .before .before .before .before .before .args .at + c .before .before .before .before .before .tag .given .0 .1 .0 + c .before .length .given .0 .1 .0 ≤ length (c .before .before .before .before .before .before .before .before .before .args .packet .now)
+length-in : (c : tie.After-known-told2)
+    → (let a = c .before .before .before .before .before .before .before .before .before .args in
+    a .at + c .before .before .before .before .before .tag .given .0 .1 .0 + c .before .length .given .0 .1 .0 ≤ length (a .packet .now))
 length-in c =
     let a = c .before .before .before .before in
     length-inside _ _ _ _ (tagged a) _ _ (sized c) (bytes (a .before .before .before .before)) .1

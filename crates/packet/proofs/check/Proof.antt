@@ -17,7 +17,9 @@ words c = record { low64 = omega (arith, c .before .before .before .before .good
 bytes : (c : tie.After-framed) → Bytes (c .before .before .before .before .args .packet .now)
 bytes c = record { byte = λ i. c .before .before .before .shared-slice-known .given i .fits }
 
-by-frame : (c : tie.After-framed) → checked (c .before .before .before .before .args .known) (c .before .before .before .before .args .packet .now) ≡ checkedBy (c .before .before .before .before .args .known) (words c) (c .before .before .before .before .args .packet .now) (bytes c) (frameSaid (c .framed .result))
+by-frame : (c : tie.After-framed)
+    → checked (c .before .before .before .before .args .known) (c .before .before .before .before .args .packet .now) ≡ checkedBy
+    (c .before .before .before .before .args .known) (words c) (c .before .before .before .before .args .packet .now) (bytes c) (frameSaid (c .framed .result))
 by-frame c =
     check-good _ (words c) _ (bytes c) (sym (c .before .before .is-good .ensures) ∙ c .before .if1 .taken)
     ∙ ap (checkedBy _ (words c) _ (bytes c)) (sym (c .framed .ensures))
@@ -38,10 +40,16 @@ check-from-requires : tie.Need-check-from-requires
 check-from-requires c κs = search needs
 
 returns : tie.Need-returns
-returns c = sym (by-frame (c .before .before .before) ∙ ap (λ f. checkedBy _ (words (c .before .before .before)) _ (bytes (c .before .before .before)) (frameSaid f)) (c .before .refusal .given .1))
+returns c =
+    sym (by-frame (c .before .before .before)
+    ∙ ap (λ f. checkedBy _ (words (c .before .before .before)) _ (bytes (c .before .before .before)) (frameSaid f)) (c .before .refusal .given .1))
 
 returns-2 : tie.Need-returns-2
-returns-2 c = c .check-from .ensures ∙ sym (by-frame (c .before .before .before .before) ∙ ap (λ f. checkedBy _ (words (c .before .before .before .before)) _ (bytes (c .before .before .before .before)) (frameSaid f)) (c .before .before .from .given .1))
+returns-2 c =
+    c .check-from .ensures
+    ∙ sym (by-frame (c .before .before .before .before)
+    ∙ ap (λ f. checkedBy _ (words (c .before .before .before .before)) _ (bytes (c .before .before .before .before)) (frameSaid f))
+    (c .before .before .from .given .1))
 
 refused-requires : tie.Need-refused-requires
 refused-requires c κs = search needs

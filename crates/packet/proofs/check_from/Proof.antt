@@ -12,7 +12,11 @@ use Rattle.packet.proofs.Tallies.{last-inside}
 use Rattle.packet.proofs.check_from.Statement.{statement}
 use Rattle.packet.proofs.check_from.Tie as tie
 
-said : (c : tie.After-known-told2) → given (tallySaid (c .before .tally .given .0 .0)) ≡ tallied (c .before .before .before .before .before .before .before .args .known) fresh (walk 128 (c .before .before .before .before .before .before .before .args .from) (drop (c .before .before .before .before .before .before .before .args .from) (c .before .before .before .before .before .before .before .args .packet .now)))
+said : (c : tie.After-known-told2)
+    → given (tallySaid (c .before .tally .given .0 .0)) ≡ tallied (c .before .before .before .before .before .before .before .args .known) fresh
+    (walk 128 (c .before .before .before .before .before .before .before .args .from)
+    (drop (c .before .before .before .before .before .before .before .args .from)
+    (c .before .before .before .before .before .before .before .args .packet .now)))
 said c = ap walkSaid (sym (c .before .tally .given .1)) ∙ c .before .before .before .walk-from .ensures
 
 shapes-requires : tie.Need-shapes-requires

@@ -48,8 +48,10 @@ returns : tie.Need-returns
 returns c =
     let k = c .before .before .before .before .before .before .before .before .before in
     let a = k .before .args in
-    let shape = c .before .before .before .before .before .before .shape-at .ensures ∙ (ap (λ l. shapeIn l (a .item .tag)) (k .before .pre .0) ∙ shape-in-column (a .item .tag)) in
-    let known = sym (c .before .before .before .before .before .before .before .before .has .ensures) ∙ c .before .before .before .before .before .before .before .if1 .taken in
+    let shape = c .before .before .before .before .before .before .shape-at .ensures
+    ∙ (ap (λ l. shapeIn l (a .item .tag)) (k .before .pre .0) ∙ shape-in-column (a .item .tag)) in
+    let known = sym (c .before .before .before .before .before .before .before .before .has .ensures)
+    ∙ c .before .before .before .before .before .before .before .if1 .taken in
     let bytes : Bytes (a .packet .now) = record { byte = λ i. k .shared-slice-known .given i .fits } in
     let size : a .item .place + a .item .size - a .item .place ≡ a .item .size = omega arith in
     fault-told (a .item .tag) (a .item .size) (c .before .value .result) (c .fault-of .ensures) shape (c .before .before .before .before .before .has2 .ensures)
@@ -63,13 +65,17 @@ returns-2 : tie.Need-returns-2
 returns-2 c =
     let k = c .before .before .before .before .before .before .before in
     let a = k .before .args in
-    let shape = c .before .before .before .before .shape-at .ensures ∙ (ap (λ l. shapeIn l (a .item .tag)) (k .before .pre .0) ∙ shape-in-column (a .item .tag)) in
+    let shape = c .before .before .before .before .shape-at .ensures
+    ∙ (ap (λ l. shapeIn l (a .item .tag)) (k .before .pre .0) ∙ shape-in-column (a .item .tag)) in
     let known = sym (c .before .before .before .before .before .before .has .ensures) ∙ c .before .before .before .before .before .if1 .taken in
     fault-told (a .item .tag) (a .item .size) 0 (c .fault-of2 .ensures) shape (c .before .before .before .has2 .ensures)
-    ∙ fault-free (a .known) (a .seen) (a .packet .now) (a .item) (k .before .pre .1) known (sym (c .before .before .limits-codes .ensures) ∙ c .before .if2 .left)
+    ∙ fault-free (a .known) (a .seen) (a .packet .now) (a .item) (k .before .pre .1) known (sym (c .before .before .limits-codes .ensures)
+    ∙ c .before .if2 .left)
 
 returns-3 : tie.Need-returns-3
-returns-3 c = fault-unknown _ _ (itemBy (c .before .before .before .args .packet .now) (c .before .before .before .args .item)) (sym (c .before .has .ensures) ∙ c .if1 .left)
+returns-3 c =
+    fault-unknown _ _ (itemBy (c .before .before .before .args .packet .now) (c .before .before .before .args .item)) (sym (c .before .has .ensures)
+    ∙ c .if1 .left)
 
 pub fault-at-spec : {M : Type 1} → statement M
 fault-at-spec =

@@ -24,14 +24,33 @@ limits-codes-requires c κs = search needs
 
 returns-2 : tie.Need-returns-2
 unfolding plainIn
-returns-2 c = rw (← c .before .before .before .before .before .has .ensures, c .before .before .before .before .if1 .taken, ← c .before .before .before .has2 .ensures, c .before .before .if2 .left, ← c .before .limits-codes .ensures, c .if3 .taken)
+returns-2 c =
+    rw (
+      ← c .before .before .before .before .before .has .ensures,
+      c .before .before .before .before .if1 .taken,
+      ← c .before .before .before .has2 .ensures,
+      c .before .before .if2 .left,
+      ← c .before .limits-codes .ensures,
+      c .if3 .taken,
+    )
 
 allows-length-at-requires : tie.Need-allows-length-at-requires
 allows-length-at-requires c κs = search needs
 
 returns-3 : tie.Need-returns-3
 unfolding plainIn
-returns-3 c = rw (← c .before .before .before .before .before .before .has .ensures, c .before .before .before .before .before .if1 .taken, ← c .before .before .before .before .has2 .ensures, c .before .before .before .if2 .left, ← c .before .before .limits-codes .ensures, c .before .if3 .left) (c .allows-length-at .ensures ∙ ap (λ s. shapeAllows s (c .before .before .before .before .before .before .before .args .item .size)) (ap (λ l. shapeIn l (c .before .before .before .before .before .before .before .args .item .tag)) (c .before .before .before .before .before .before .before .pre) ∙ shape-in-column (c .before .before .before .before .before .before .before .args .item .tag)))
+returns-3 c =
+    let k = c .before .before .before .before .before .before .before in
+    let i = k .args .item in
+    let shape = ap (λ l. shapeIn l (i .tag)) (k .pre) ∙ shape-in-column (i .tag) in
+    rw (
+      ← c .before .before .before .before .before .before .has .ensures,
+      c .before .before .before .before .before .if1 .taken,
+      ← c .before .before .before .before .has2 .ensures,
+      c .before .before .before .if2 .left,
+      ← c .before .before .limits-codes .ensures,
+      c .before .if3 .left,
+    ) (c .allows-length-at .ensures ∙ ap (λ s. shapeAllows s (i .size)) shape)
 
 returns-4 : tie.Need-returns-4
 unfolding plainIn

@@ -47,10 +47,20 @@ add-if4 : tie.Need-add-if4
 add-if4 c = search needs
 
 returns-3 : tie.Need-returns-3
-returns-3 c = let a = c .before .before .before .before .before .before .before .before .before .before .args in sym (short-past-the-end (a .packet .now) (a .at) _ _ (c .before .before .before .before .before .wide .ensures .0) (c .before .before .before .wide2 .ensures .0) (omega arith) (omega arith) (sym (c .before .before .is-short .ensures) ∙ c .before .if3 .taken) (c .if4 .taken))
+returns-3 c =
+    let a = c .before .before .before .before .before .before .before .before .before .before .args in
+    let short = sym (c .before .before .is-short .ensures) ∙ c .before .if3 .taken in
+    let tag = c .before .before .before .before .before .wide .ensures .0 in
+    let size = c .before .before .before .wide2 .ensures .0 in
+    sym (short-past-the-end (a .packet .now) (a .at) _ _ tag size (omega arith) (omega arith) short (c .if4 .taken))
 
 returns-4 : tie.Need-returns-4
-returns-4 c = let a = c .before .before .before .before .before .before .before .before .before .before .args in sym (short-item (a .packet .now) (a .at) _ _ (c .before .before .before .before .before .wide .ensures .0) (c .before .before .before .wide2 .ensures .0) (omega arith) (omega arith) (sym (c .before .before .is-short .ensures) ∙ c .before .if3 .taken) (c .if4 .left))
+returns-4 c =
+    let a = c .before .before .before .before .before .before .before .before .before .before .args in
+    let short = sym (c .before .before .is-short .ensures) ∙ c .before .if3 .taken in
+    let tag = c .before .before .before .before .before .wide .ensures .0 in
+    let size = c .before .before .before .wide2 .ensures .0 in
+    sym (short-item (a .packet .now) (a .at) _ _ tag size (omega arith) (omega arith) short (c .if4 .left))
 
 any-item-at-requires-3 : tie.Need-any-item-at-requires-3
 any-item-at-requires-3 c κs = search needs

@@ -14,7 +14,10 @@ stored : (c : tie.After-checksum) → (let a = c .before .before .before .before
     c .before .before .value .result ≡ valueOf (take 2 (drop (a .tally .last .place) (a .packet .now))))
 stored c =
     let k = c .before .before .before .before .before in
-    two-bytes _ (k .before .args .tally .last .place) (record { byte = λ i. k .shared-slice-known .given i .fits }) (omega (arith, k .before .pre)) _ (c .before .before .value .ensures)
+    two-bytes _ (k .before .args .tally .last .place) (record {
+      byte =
+          λ i. k .shared-slice-known .given i .fits;
+    }) (omega (arith, k .before .pre)) _ (c .before .before .value .ensures)
 
 add-end : tie.Need-add-end
 add-end c = search needs

@@ -25,10 +25,14 @@ abbrev μ-loop : tie.MeasureT-loop
 μ-loop packet from column known here₀ tally₀ here tally = length packet - here
 
 -- the item found at the loop's place
-found : (c : tie.After-known-told2 Inv-loop μ-loop) → headerAt (c .before .before .before .before .before .before .before .before .before .args .packet .now) (c .before .before .before .before .before .before .loop .here) ≡ given (c .before .item .given .0 .0)
+found : (c : tie.After-known-told2 Inv-loop μ-loop)
+    → headerAt (c .before .before .before .before .before .before .before .before .before .args .packet .now)
+    (c .before .before .before .before .before .before .loop .here) ≡ given (c .before .item .given .0 .0)
 found c = sym (c .before .before .before .item-at .ensures) ∙ ap stepSaid (c .before .item .given .1)
 
-lies : (c : tie.After-known-told2 Inv-loop μ-loop) → Lies (c .before .before .before .before .before .before .before .before .before .args .packet .now) (c .before .before .before .before .before .before .loop .here) (c .before .item .given .0 .0)
+lies : (c : tie.After-known-told2 Inv-loop μ-loop)
+    → Lies (c .before .before .before .before .before .before .before .before .before .args .packet .now)
+    (c .before .before .before .before .before .before .loop .here) (c .before .item .given .0 .0)
 lies c =
     header-lies _ _
     (record { byte = λ i. c .before .before .before .before .before .before .before .before .shared-slice-known .given i .fits })
@@ -78,13 +82,20 @@ with-item-requires : tie.Need-with-item-requires Inv-loop μ-loop
 with-item-requires c κs = c .before .before .before .before .before .before .before .before .before .loop .inv .0
 
 fault-at-requires : tie.Need-fault-at-requires Inv-loop μ-loop
-fault-at-requires c κs = (c .before .before .before .before .before .before .before .before .before .before .before .before .pre, lies (c .before .before .before) .inside)
+fault-at-requires c κs =
+    (c .before .before .before .before .before .before .before .before .before .before .before .before .pre, lies (c .before .before .before) .inside)
 
 with-item-requires-2 : tie.Need-with-item-requires-2 Inv-loop μ-loop
 with-item-requires-2 c κs = c .before .before .before .before .before .before .before .before .before .before .loop .inv .0
 
 add-here : tie.Need-add-here Inv-loop μ-loop
-add-here c = omega (arith, lies (c .before .before .before .before) .inside, c .before .before .before .before .before .before .before .before .before .before .before .before .before .good)
+add-here c =
+    omega (
+      arith,
+      lies
+          (c .before .before .before .before) .inside,
+      c .before .before .before .before .before .before .before .before .before .before .before .before .before .good,
+    )
 
 loop-less : tie.Need-loop-less Inv-loop μ-loop
 loop-less c = omega (arith, lies (c .before .before .before .before))
@@ -104,7 +115,9 @@ stepped c =
     let i = d .before .item .given .0 .0 in
     let s = a .before .before .before .before .before .before .args in
     ⊎-elim
-    (λ w. ap tallySaid (w .2) ∙ (w .1 .ensures ∙ ap (withHeader T i) (plain-clean (s .known) (T .seen) (s .packet .now) i (lies d .inside) (sym (c .before .before .is-plain .ensures) ∙ w .0 .taken))))
+    (λ w. ap tallySaid (w .2)
+    ∙ (w .1 .ensures
+    ∙ ap (withHeader T i) (plain-clean (s .known) (T .seen) (s .packet .now) i (lies d .inside) (sym (c .before .before .is-plain .ensures) ∙ w .0 .taken))))
     (λ w. ap tallySaid (w .3) ∙ (w .2 .ensures ∙ ap (withHeader T i) (w .1 .ensures)))
     (c .before .if2 .came)
 
@@ -132,7 +145,8 @@ loop-again c =
 returns-3 : tie.Need-returns-3 Inv-loop μ-loop
 returns-3 c =
     let l = c .before .loop in
-    sym (tallied-none _ (tallySaid (l .tally))) ∙ (ap (tallied _ (tallySaid (l .tally))) (sym (walk-end _ (l .here) (128 - l .tally .count) (c .loop-test .left))) ∙ l .inv .1)
+    sym (tallied-none _ (tallySaid (l .tally)))
+    ∙ (ap (tallied _ (tallySaid (l .tally))) (sym (walk-end _ (l .here) (128 - l .tally .count) (c .loop-test .left))) ∙ l .inv .1)
 
 pub walk-from-spec : {M : Type 1} → statement M
 walk-from-spec =

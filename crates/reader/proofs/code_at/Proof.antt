@@ -42,7 +42,10 @@ returns-3 c =
     let a = c .before .before .before .before .before .before in
     let shape = c .before .before .before .enum-told3 .given .1 in
     rw (shape, code-seen _ (take (a .args .item .size) (drop (a .args .item .place) (a .args .packet .now))))
-    (narrow-value (a .args .packet .now) (record { byte = λ i. c .before .before .before .before .before .shared-slice-known .given i .fits }) (a .args .item) (a .pre .0) (rw shape at (a .pre .1)) _ (c .value .ensures))
+    (narrow-value (a .args .packet .now) (record {
+      byte =
+          λ i. c .before .before .before .before .before .shared-slice-known .given i .fits;
+    }) (a .args .item) (a .pre .0) (rw shape at (a .pre .1)) _ (c .value .ensures))
 
 pub code-at-spec : {M : Type 1} → statement M
 code-at-spec =

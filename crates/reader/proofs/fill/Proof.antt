@@ -36,13 +36,19 @@ unfolding judge
 fits K is e = fine-fit (holds K) [] is e
 
 -- the item found at the loop's place
-found : (c : tie.After-known-told Inv-loop μ-loop) → headerAt (c .before .before .before .before .before .before .before .before .before .args .packet .now) (c .before .before .before .before .before .loop .here) ≡ given (c .before .item .given .0 .0)
+found : (c : tie.After-known-told Inv-loop μ-loop)
+    → headerAt (c .before .before .before .before .before .before .before .before .before .args .packet .now)
+    (c .before .before .before .before .before .loop .here) ≡ given (c .before .item .given .0 .0)
 found c = sym (c .before .before .before .item-at .ensures) ∙ ap stepSaid (c .before .item .given .1)
 
-next : (c : tie.After-known-told Inv-loop μ-loop) → Next _ _ _ _ _ _ (c .before .before .before .before .before .loop .inv .3) (c .before .before .before .before .loop-test .taken) (c .before .item .given .0 .0)
+next : (c : tie.After-known-told Inv-loop μ-loop)
+    → Next _ _ _ _ _ _ (c .before .before .before .before .before .loop .inv .3) (c .before .before .before .before .loop-test .taken)
+    (c .before .item .given .0 .0)
 next c = next-item _ _ _ _ _ _ (c .before .before .before .before .before .loop .inv .3) (c .before .before .before .before .loop-test .taken) _ (found c)
 
-lies : (c : tie.After-known-told Inv-loop μ-loop) → Lies (c .before .before .before .before .before .before .before .before .before .args .packet .now) (c .before .before .before .before .before .loop .here) (c .before .item .given .0 .0)
+lies : (c : tie.After-known-told Inv-loop μ-loop)
+    → Lies (c .before .before .before .before .before .before .before .before .before .args .packet .now)
+    (c .before .before .before .before .before .loop .here) (c .before .item .given .0 .0)
 lies c =
     header-lies _ _ (record { byte = λ i. c .before .before .before .before .before .before .before .before .shared-slice-known .given i .fits }) _ (found c)
 
@@ -54,7 +60,8 @@ loop-holds c =
     let s = c .before .before .before in
     let a = s .pre .0 in
     let b = a .begins in
-    let k : Accepting (s .args .known) (s .args .packet .now) (b .items) = accepting _ _ _ (record { byte = λ i. c .before .before .shared-slice-known .given i .fits }) (a .accepted) in (
+    let k : Accepting (s .args .known) (s .args .packet .now) (b .items) =
+    accepting _ _ _ (record { byte = λ i. c .before .before .shared-slice-known .given i .fits }) (a .accepted) in (
       c .shapes .ensures,
       refl,
       k .short,
@@ -91,7 +98,10 @@ row-of-requires c κs =
       d .inside,
       l .inv .2,
       next (c .before) .narrow
-          (value-length _ (record { byte = λ i. c .before .before .before .before .before .before .before .before .before .shared-slice-known .given i .fits }) (c .before .before .item .given .0 .0) (d .inside)),
+          (value-length _ (record {
+            byte =
+                λ i. c .before .before .before .before .before .before .before .before .before .shared-slice-known .given i .fits;
+          }) (c .before .before .item .given .0 .0) (d .inside)),
     )
 
 put-row-requires : tie.Need-put-row-requires Inv-loop μ-loop
@@ -101,7 +111,13 @@ put-row-requires c κs =
     (few, omega (arith, few, l .inv .1, c .before .before .before .before .before .before .before .before .before .before .before .before .pre .1))
 
 add-here : tie.Need-add-here Inv-loop μ-loop
-add-here c = omega (arith, lies (c .before .before .before .before .before .before .before) .inside, c .before .before .before .before .before .before .before .before .before .before .before .before .loop .inv .2)
+add-here c =
+    omega (
+      arith,
+      lies
+          (c .before .before .before .before .before .before .before) .inside,
+      c .before .before .before .before .before .before .before .before .before .before .before .before .loop .inv .2,
+    )
 
 add-n : tie.Need-add-n Inv-loop μ-loop
 add-n c = omega (arith, next (c .before .before .before .before .before .before .before) .one-left)
@@ -112,8 +128,14 @@ loop-less c = omega (arith, lies (c .before .before .before .before .before .bef
 loop-again : tie.Need-loop-again Inv-loop μ-loop
 loop-again c =
     let l = c .before .before .before .before .before .before .before .before .before .before .before .before .loop in
-    let put = c .before .before .before .put-row in
-    (l .inv .0, put .kept .0 ∙ l .inv .1, l .inv .2, next (c .before .before .before .before .before .before .before) .left _ (put .ensures ∙ ap (putRow (l .table) (l .n)) (c .before .before .before .before .before .row-of .ensures)))
+    let put = c .before .before .before .put-row in (
+      l .inv .0,
+      put .kept .0
+          ∙ l .inv .1,
+      l .inv .2,
+      next (c .before .before .before .before .before .before .before) .left _ (put .ensures
+          ∙ ap (putRow (l .table) (l .n)) (c .before .before .before .before .before .row-of .ensures)),
+    )
 
 same-length-2 : tie.Need-same-length-2 Inv-loop μ-loop
 same-length-2 c = c .before .loop .inv .1

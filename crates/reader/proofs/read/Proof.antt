@@ -24,7 +24,10 @@ room c = c .before .before .before .before .if2 .left
 bytes : (c : tie.After-known-told2) → Bytes (c .before .before .before .before .before .before .before .before .before .args .packet .now)
 bytes c = record { byte = λ i. c .before .before .before .before .before .before .before .before .shared-slice-known .given i .fits }
 
-accepts : (c : tie.After-known-told2) → Taken (c .before .before .before .before .before .before .before .before .before .args .known) (c .before .before .before .before .before .before .before .before .before .args .packet .now) (c .before .before .before .before .before .before .before .before .before .args .table .now) (known c) (room c) (c .before .accepted .given .0 .0)
+accepts : (c : tie.After-known-told2)
+    → Taken (c .before .before .before .before .before .before .before .before .before .args .known)
+    (c .before .before .before .before .before .before .before .before .before .args .packet .now)
+    (c .before .before .before .before .before .before .before .before .before .args .table .now) (known c) (room c) (c .before .accepted .given .0 .0)
 accepts c = taken _ _ _ (known c) (room c) _ (sym (c .before .before .before .check .ensures) ∙ ap checkSaid (c .before .accepted .given .1))
 
 is-good-requires : tie.Need-is-good-requires
@@ -34,7 +37,8 @@ refused-requires : tie.Need-refused-requires
 refused-requires c κs = search needs
 
 returns : tie.Need-returns
-returns c = short-table _ _ _ (sym (c .before .before .before .is-good .ensures) ∙ c .before .before .if1 .taken) (c .before .if2 .taken) _ (c .refused .ensures)
+returns c =
+    short-table _ _ _ (sym (c .before .before .before .is-good .ensures) ∙ c .before .before .if1 .taken) (c .before .if2 .taken) _ (c .refused .ensures)
 
 check-requires : tie.Need-check-requires
 check-requires c κs = search needs
@@ -49,19 +53,31 @@ fill-requires : tie.Need-fill-requires
 fill-requires c κs = (may-fill _ _ _ (known (c .before)) (room (c .before)) (bytes (c .before)) _ (accepts (c .before)), room (c .before))
 
 mul-clear : tie.Need-mul-clear
-mul-clear c = omega (arith, few _ _ _ (known (c .before .before .before .before .before)) (room (c .before .before .before .before .before)) (bytes (c .before .before .before .before .before)) _ (accepts (c .before .before .before .before .before)))
+mul-clear c =
+    omega (
+      arith,
+      few _ _ _ (known (c .before .before .before .before .before)) (room (c .before .before .before .before .before))
+          (bytes (c .before .before .before .before .before)) _ (accepts (c .before .before .before .before .before)),
+    )
 
 clear-requires : tie.Need-clear-requires
 clear-requires c κs = search needs
 
 returns-2 : tie.Need-returns-2
-returns-2 c = refused-packet _ _ _ (sym (c .before .before .before .before .before .before .is-good .ensures) ∙ c .before .before .before .before .before .if1 .taken) (c .before .before .before .before .if2 .left) _ _ _ (sym (c .before .before .before .check .ensures) ∙ ap checkSaid (c .before .refusal .given .1)) _ refl
+returns-2 c =
+    refused-packet _ _ _ (sym (c .before .before .before .before .before .before .is-good .ensures)
+    ∙ c .before .before .before .before .before .if1 .taken) (c .before .before .before .before .if2 .left) _ _ _
+    (sym (c .before .before .before .check .ensures) ∙ ap checkSaid (c .before .refusal .given .1)) _ refl
 
 same-length : tie.Need-same-length
 same-length c = search needs
 
 returns-3 : tie.Need-returns-3
-returns-3 c = filled _ _ _ (known (c .before .before .before .before .before .before .before .before)) (room (c .before .before .before .before .before .before .before .before)) (bytes (c .before .before .before .before .before .before .before .before)) _ (accepts (c .before .before .before .before .before .before .before .before)) _ _ (c .before .before .before .before .before .before .fill .ensures) (c .before .before .clear .ensures)
+returns-3 c =
+    filled _ _ _ (known (c .before .before .before .before .before .before .before .before))
+    (room (c .before .before .before .before .before .before .before .before)) (bytes (c .before .before .before .before .before .before .before .before)) _
+    (accepts (c .before .before .before .before .before .before .before .before)) _ _ (c .before .before .before .before .before .before .fill .ensures)
+    (c .before .before .clear .ensures)
 
 refused-requires-2 : tie.Need-refused-requires-2
 refused-requires-2 c κs = search needs

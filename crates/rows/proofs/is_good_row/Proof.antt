@@ -14,11 +14,26 @@ is-good-content-requires c κs = search needs
 
 returns : tie.Need-returns
 unfolding rowGood
-returns c = rw (lt-ltb 0 _ (c .before .before .before .before .before .if1 .taken), lt-ltb _ 2097152 (c .before .before .before .before .if2 .taken), ← c .before .before .before .kind-of .ensures, eq-eqb _ _ (c .before .if3 .taken)) (c .is-good-content .ensures)
+returns c =
+    rw (
+      lt-ltb 0 _ (c .before .before .before .before .before .if1 .taken),
+      lt-ltb _ 2097152
+          (c .before .before .before .before .if2 .taken),
+      ← c .before .before .before .kind-of .ensures,
+      eq-eqb _ _ (c .before .if3 .taken),
+    )
+    (c .is-good-content .ensures)
 
 returns-2 : tie.Need-returns-2
 unfolding rowGood
-returns-2 c = rw (lt-ltb 0 _ (c .before .before .before .before .if1 .taken), lt-ltb _ 2097152 (c .before .before .before .if2 .taken), ← c .before .before .kind-of .ensures, ne-eqb _ _ (c .if3 .left))
+returns-2 c =
+    rw (
+      lt-ltb 0 _ (c .before .before .before .before .if1 .taken),
+      lt-ltb _ 2097152
+          (c .before .before .before .if2 .taken),
+      ← c .before .before .kind-of .ensures,
+      ne-eqb _ _ (c .if3 .left),
+    )
 
 returns-3 : tie.Need-returns-3
 unfolding rowGood

@@ -53,14 +53,29 @@ refused-requires c κs = search needs
 
 returns-2 : tie.Need-returns-2
 unfolding rowTakenAt
-returns-2 c = c .refused .ensures ∙ sym (rw (← c .before .before .before .before .before .is-good .ensures, c .before .before .before .before .if1 .taken, ← c .before .before .before .is-good-count .ensures, c .before .before .if2 .taken, le-ltb _ _ (c .before .if3 .left)))
+returns-2 c =
+    c .refused .ensures
+    ∙ sym (rw (
+      ← c .before .before .before .before .before .is-good .ensures,
+      c .before .before .before .before .if1 .taken,
+      ← c .before .before .before .is-good-count .ensures,
+      c .before .before .if2 .taken,
+      le-ltb _ _ (c .before .if3 .left),
+    ))
 
 refused-requires-2 : tie.Need-refused-requires-2
 refused-requires-2 c κs = search needs
 
 returns-3 : tie.Need-returns-3
 unfolding rowTakenAt
-returns-3 c = c .refused2 .ensures ∙ sym (rw (← c .before .before .before .before .is-good .ensures, c .before .before .before .if1 .taken, ← c .before .before .is-good-count .ensures, c .before .if2 .left))
+returns-3 c =
+    c .refused2 .ensures
+    ∙ sym (rw (
+      ← c .before .before .before .before .is-good .ensures,
+      c .before .before .before .if1 .taken,
+      ← c .before .before .is-good-count .ensures,
+      c .before .if2 .left,
+    ))
 
 refused-requires-3 : tie.Need-refused-requires-3
 refused-requires-3 c κs = search needs

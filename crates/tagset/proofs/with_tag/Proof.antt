@@ -21,7 +21,8 @@ shl-t7 c = search needs
 
 returns-2 : tie.Need-returns-2
 unfolding withTag
-returns-2 c = rw (le-ltb _ _ (c .before .before .if1 .left), lt-ltb _ _ (c .before .if2 .taken), one-shl (c .before .before .before .args .tag - 64) (omega arith))
+returns-2 c =
+    rw (le-ltb _ _ (c .before .before .if1 .left), lt-ltb _ _ (c .before .if2 .taken), one-shl (c .before .before .before .args .tag - 64) (omega arith))
 
 returns-3 : tie.Need-returns-3
 unfolding withTag
