@@ -27,7 +27,8 @@ tag-in c = tag-inside _ _ _ _ (tagged c) (bytes (c .before .before .before .befo
 
 sized : (c : tie.After-known-told2)
     → (let a = c .before .before .before .before .before .before .before .before .before .args in
-    readLength (drop (a .at + c .before .before .before .before .before .tag .given .0 .1 .0) (a .packet .now)) ≡ got (c .before .length .given .0 .0) (c .before .length .given .0 .1 .0))
+    readLength (drop (a .at + c .before .before .before .before .before .tag .given .0 .1 .0) (a .packet .now))
+    ≡ got (c .before .length .given .0 .0) (c .before .length .given .0 .1 .0))
 sized c = sym (c .before .before .before .length-at .ensures) ∙ ap seen (c .before .length .given .1)
 
 length-in : (c : tie.After-known-told2)
