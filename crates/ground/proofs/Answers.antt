@@ -7,7 +7,7 @@ use mathlib.Core.List.{List}
 use borrow.Author.Tests.{lt-ltb, le-ltb}
 use Rattle.base.proofs.Cases.{never}
 use Rattle.refusal.specs.Answer.{given}
-use Rattle.rows.specs.Meaning.{Row}
+use Rattle.rows.specs.declared.RowWords.{RowWords}
 use Rattle.ground.specs.Values.{valueFor, Small}
 use Rattle.ground.specs.Ground.{heightBy, heightIn, CornerSeen, noCorner, offTheEarth, on, fullCorner, offsetCorner, otherwise, cornerIn}
 use Rattle.ground.specs.Said.{cornerSaid}
@@ -16,11 +16,11 @@ use Rattle.ground.specs.declared.Corner.{Corner}
 use Rattle.ground.specs.declared.Corner.the-variants as corner
 use Rattle.ground.proofs.Values.{value-small}
 
-pub small-value : (t : ℕ) (rs : List Row) (x : Value) → x ≡ valueFor t rs → Small x
+pub small-value : (t : ℕ) (rs : List RowWords) (x : Value) → x ≡ valueFor t rs → Small x
 small-value t rs x e = rw e (value-small t rs)
 
 -- the two values that a height goes by
-pub height-told : (t u : ℕ) (rs : List Row) (x y a b : Value) → x ≡ valueFor t rs → y ≡ valueFor u rs → x ≡ a → y ≡ b
+pub height-told : (t u : ℕ) (rs : List RowWords) (x y a b : Value) → x ≡ valueFor t rs → y ≡ valueFor u rs → x ≡ a → y ≡ b
     → given (heightBy a b) ≡ given (heightIn t u rs)
 unfolding heightIn
 height-told t u rs x y a b e f g h = rw (← e, ← f, g, h)
@@ -38,7 +38,7 @@ decides corner.OffTheEarth f w e n = let g : f ≡ offTheEarth = cc in rw g
 decides corner.Missing f w e n = absurd n
 decides (corner.Refused r) f w e n = never (cc)
 
-module _ (k : ℕ) (rs : List Row) where
+module _ (k : ℕ) (rs : List RowWords) where
   -- "Any other k is missing."
   pub no-corner-0 : k ≡ 0 → given noCorner ≡ given (cornerIn k rs)
   unfolding cornerIn

@@ -23,7 +23,8 @@ use Rattle.catalogue.specs.declared.Item.{Item}
 use Rattle.catalogue.specs.declared.Found.{Found}
 use Rattle.catalogue.specs.declared.Found.the-variants.{Known, Absent as Unlisted}
 use Rattle.catalogue.specs.declared.Shape.the-variants.{Number}
-use Rattle.rows.specs.Meaning.{Row, shapeFor, markCode, kindFor, isNumber as number}
+use Rattle.rows.specs.Meaning.{shapeFor, markCode, kindFor, isNumber as number}
+use Rattle.rows.specs.declared.RowWords.{RowWords}
 use Rattle.rows.specs.Taken.{partLength, rowGood, tagGood, rowSays, GoodRow}
 use Rattle.packet.specs.Pieces as pieces
 use Rattle.packet.specs.Judge.{Knowing}
@@ -38,22 +39,22 @@ use Rattle.ground.specs.Values.{valueBy, valueFor}
 use Rattle.ground.specs.declared.Value.{Value}
 use Rattle.ground.specs.declared.Value.the-variants.{Absent, Off, At}
 
-pub data In (r : Row) : List Row → Type 0 where
-  here : {rs : List Row} → In r (r ∷ rs)
-  there : {s : Row} {rs : List Row} → In r rs → In r (s ∷ rs)
+pub data In (r : RowWords) : List RowWords → Type 0 where
+  here : {rs : List RowWords} → In r (r ∷ rs)
+  there : {s : RowWords} {rs : List RowWords} → In r rs → In r (s ∷ rs)
 
-pub data Says (i : Item) (t : ℕ) (rs : List Row) : Value → Type 0 where
+pub data Says (i : Item) (t : ℕ) (rs : List RowWords) : Value → Type 0 where
   nothing : Each (λ r. r .tag ≡ t → ⊥) rs → Says i t rs Absent
-  a-mark : (r : Row) → In r rs → r .tag ≡ t → r .kind ≡ 2 → Says i t rs Off
-  a-reading : (r : Row) → In r rs → r .tag ≡ t → r .kind ≡ 1 → Says i t rs (At (houseOf i (r .code)))
+  a-mark : (r : RowWords) → In r rs → r .tag ≡ t → r .kind ≡ 2 → Says i t rs Off
+  a-reading : (r : RowWords) → In r rs → r .tag ≡ t → r .kind ≡ 1 → Says i t rs (At (houseOf i (r .code)))
 
-says-after : {i : Item} {t : ℕ} {rs : List Row} {v : Value} (r : Row) → (r .tag ≡ t → ⊥) → Says i t rs v → Says i t (r ∷ rs) v
+says-after : {i : Item} {t : ℕ} {rs : List RowWords} {v : Value} (r : RowWords) → (r .tag ≡ t → ⊥) → Says i t rs v → Says i t (r ∷ rs) v
 says-after r n (nothing e) = nothing (n, e)
 says-after r n (a-mark s m e k) = a-mark s (there m) e k
 says-after r n (a-reading s m e k) = a-reading s (there m) e k
 
 -- a row of either kind is a number
-a-number : (r : Row) → (r .kind ≡ 2) ⊎ (r .kind ≡ 1) → number (rowSays r) ≡ true
+a-number : (r : RowWords) → (r .kind ≡ 2) ⊎ (r .kind ≡ 1) → number (rowSays r) ≡ true
 a-number r k = ⊎-elim (λ e. rw e) (λ e. rw e) k
 
 -- the checksum has no scale
@@ -77,11 +78,11 @@ module _ (K : Knowing) (b : List ℕ) (t : ℕ) (i : Item) (knows : K t ≡ true
   unfolding shapeFor shapeOf
   shape-is = rw (knows, s .known, some-bytes)
 
-  abbrev marked : Row → Bool
+  abbrev marked : RowWords → Bool
   marked r = isMarked (i .sign) && eqb (r .code) (markCode (i .width))
 
   -- a row of the tag that is not bad is a mark or a number
-  module _ (r : Row) (e : r .tag ≡ t) (g : GoodRow K b r) where
+  module _ (r : RowWords) (e : r .tag ≡ t) (g : GoodRow K b r) where
     parts : (eqb (r .kind) (kindFor (Number (i .width) (isMarked (i .sign))) (r .code))
         && (eqb (partLength (r .part)) (i .width) && (eqb (r .tag) 1 || ltb (r .code) (2 ^ (8 * i .width))))) ≡ true
     unfolding rowGood
@@ -109,7 +110,7 @@ module _ (K : Knowing) (b : List ℕ) (t : ℕ) (i : Item) (knows : K t ≡ true
         let n : isNumber i (r .code) ≡ true = rw (fits, m) in
         (k, rw (k, e, every-code-converts s (r .code) n))
 
-  value-says : (rs : List Row) → Each (GoodRow K b) rs → Says i t rs (valueFor t rs)
+  value-says : (rs : List RowWords) → Each (GoodRow K b) rs → Says i t rs (valueFor t rs)
   unfolding valueFor
   value-says [] g = nothing tt
   value-says (r ∷ rs) g =

@@ -13,7 +13,8 @@ use Rattle.tagset.specs.Sets.{holds}
 use Rattle.tagset.specs.declared.TagSet.{TagSet}
 use Rattle.tagset.proofs.Laws.{Included}
 use Rattle.knowing.specs.Good.{good}
-use Rattle.rows.specs.Meaning.{Row, shapeFor}
+use Rattle.rows.specs.Meaning.{shapeFor}
+use Rattle.rows.specs.declared.RowWords.{RowWords}
 use Rattle.packet.specs.Pieces.{Item}
 use Rattle.packet.specs.Judge.{Knowing}
 use Rattle.packet.specs.Verdict.{received}
@@ -32,8 +33,8 @@ same-value K K′ t e (i ∷ is) =
     (λ n. rw (ne-eqb _ _ n) (same-value K K′ t e is))
 
 -- the tags that an answer looks at: rows that say the same of them give the same answer
-abbrev pub LooksAt : {A : Type 0} → List ℕ → (List Row → A) → Type 0
-LooksAt ts f = (rs ss : List Row) → Each (λ t. valueFor t rs ≡ valueFor t ss) ts → f rs ≡ f ss
+abbrev pub LooksAt : {A : Type 0} → List ℕ → (List RowWords → A) → Type 0
+LooksAt ts f = (rs ss : List RowWords) → Each (λ t. valueFor t rs ≡ valueFor t ss) ts → f rs ≡ f ss
 
 pub height-looks : (a b : ℕ) → LooksAt (a ∷ b ∷ []) (heightIn a b)
 unfolding heightIn
@@ -55,7 +56,7 @@ module _ (K K′ : TagSet) (g : good K ≡ true) (g′ : good K′ ≡ true) (wi
   values [] a = tt
   values (t ∷ ts) a = (same-value (holds K) (holds K′) t (a .0) is, values ts (a .1))
 
-  pub same-answer : {A : Type 0} (ts : List ℕ) (f : List Row → A) → LooksAt ts f → Agree ts → fromRows f K p ≡ fromRows f K′ p
+  pub same-answer : {A : Type 0} (ts : List ℕ) (f : List RowWords → A) → LooksAt ts f → Agree ts → fromRows f K p ≡ fromRows f K′ p
   unfolding fromRows
   same-answer ts f looks a =
       rw (received-larger K K′ g g′ within p is accepts, accepts, looks (rowsOf (holds K) is) (rowsOf (holds K′) is) (values ts a))

@@ -9,7 +9,7 @@ use lib.ListN.{length, replicate}
 use Rattle.refusal.specs.Answer.{given, refused, refusal}
 use Rattle.refusal.specs.declared.Refusal.{Refusal}
 use Rattle.tagset.specs.declared.TagSet.{TagSet}
-use Rattle.rows.specs.Meaning.{Row}
+use Rattle.rows.specs.declared.RowWords.{RowWords}
 use Rattle.packet.specs.Rows.{rowsIn, Filled, readAnswer, readTable}
 use Rattle.laws.proofs.Tables.{has-received, received-refused}
 use Rattle.reader.specs.Reads.{Reads, readSaid}
@@ -17,7 +17,7 @@ use Rattle.reader.specs.declared.Reading.{Reading}
 use Rattle.reader.specs.declared.Reading.the-variants as reading
 use Rattle.ground.specs.Ground.{fromRows}
 
-module _ {A : Type 0} (f : List Row → A) (K : TagSet) (p t : List ℕ) where
+module _ {A : Type 0} (f : List RowWords → A) (K : TagSet) (p t : List ℕ) where
   pub reader-rows : (done : Filled) → readAnswer K p t ≡ given done → fromRows f K p ≡ given (f (rowsIn 0 (done .count) (readTable K p t)))
   unfolding fromRows
   reader-rows done e = let r = has-received K p t done e in rw (r .accepted, r .rows)
@@ -27,7 +27,7 @@ module _ {A : Type 0} (f : List Row → A) (K : TagSet) (p t : List ℕ) where
   reader-refusal long n a u e = rw (received-refused K p t long n a u e)
 
 -- with a table of its own
-module _ {A : Type 0} (f : List Row → A) (K : TagSet) (p : List ℕ) (r : Reading) (t : List ℕ) (d : Reads K p (replicate 512 0) r t) where
+module _ {A : Type 0} (f : List RowWords → A) (K : TagSet) (p : List ℕ) (r : Reading) (t : List ℕ) (d : Reads K p (replicate 512 0) r t) where
   pub not-read : (x : Refusal) → r ≡ reading.Refused x → refusal x ≡ fromRows f K p
   not-read x e = sym (reader-refusal f K p (replicate 512 0) (omega arith) _ _ _ (sym (d .answer) ∙ ap readSaid e))
 

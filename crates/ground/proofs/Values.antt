@@ -10,7 +10,8 @@ use mir.Syntax.{w64}
 use mir.Val.{SFits}
 use Rattle.base.proofs.Cases.{byBool}
 use Rattle.refusal.specs.Answer.{Answer, given, refused}
-use Rattle.rows.specs.Meaning.{Meaning, reading, mark, text, carried, isNumber, Row}
+use Rattle.rows.specs.Meaning.{Meaning, reading, mark, text, carried, isNumber}
+use Rattle.rows.specs.declared.RowWords.{RowWords}
 use Rattle.rows.specs.Taken.{rowSays, rowAt}
 use Rattle.rows.specs.declared.Part.{Part}
 use Rattle.rows.proofs.Laws.{number-reading}
@@ -27,7 +28,7 @@ use Rattle.ground.specs.declared.Value.{Value}
 use Rattle.ground.specs.declared.Value.the-variants.{Absent, Off, At}
 
 -- what a row that is present says
-module _ (r : Row) where
+module _ (r : RowWords) where
   pub a-mark : r .kind ≡ 2 → Off ≡ valueBy r
   unfolding valueBy
   a-mark e = rw e
@@ -38,7 +39,7 @@ module _ (r : Row) where
 
 -- the row numbered n of count rows is the one, or the search goes on after it
 module _ (t : ℕ) (w : List ℕ) (n count : ℕ) where
-  module _ (h : n < count) (r : Row) (e : r ≡ rowAt w n) (b : Bool) (p : b ≡ (eqb (r .tag) t && isNumber (rowSays r))) where
+  module _ (h : n < count) (r : RowWords) (e : r ≡ rowAt w n) (b : Bool) (p : b ≡ (eqb (r .tag) t && isNumber (rowSays r))) where
     pub this-row : b ≡ true → valueBy r ≡ valueFor t (rowsIn n (count - n) w)
     unfolding valueFor
     this-row q = rw (rows-from w n count h, ← e, ← p, q)
@@ -56,7 +57,7 @@ house-is-small : (t code : ℕ) (a : Answer House) → toHouse t code ≡ a → 
 house-is-small t code (given h) e = house-small t code h e
 house-is-small t code (refused n p u) e = tt
 
-row-small : (r : Row) → Small (valueBy r)
+row-small : (r : RowWords) → Small (valueBy r)
 unfolding valueBy
 row-small r = seen-small (rowSays r)
   where
@@ -66,7 +67,7 @@ row-small r = seen-small (rowSays r)
     seen-small (text part) = tt
     seen-small (carried part) = tt
 
-pub value-small : (t : ℕ) (rs : List Row) → Small (valueFor t rs)
+pub value-small : (t : ℕ) (rs : List RowWords) → Small (valueFor t rs)
 unfolding valueFor
 value-small t [] = tt
 value-small t (r ∷ rs) =

@@ -7,7 +7,7 @@ use lib.IntN.{ℤ, _+ℤ_}
 use Rattle.refusal.specs.Answer.{Answer, map}
 use Rattle.tagset.specs.Sets.{holds}
 use Rattle.tagset.specs.declared.TagSet.{TagSet}
-use Rattle.rows.specs.Meaning.{Row}
+use Rattle.rows.specs.declared.RowWords.{RowWords}
 use Rattle.packet.specs.Verdict.{received}
 use Rattle.packet.specs.Rows.{rowsOf}
 use Rattle.ground.specs.Values.{valueFor}
@@ -28,7 +28,7 @@ heightBy Absent (At mm) = overSeaLevel mm
 heightBy Absent Off = noHeight
 heightBy Absent Absent = noHeight
 
-unfoldable pub heightIn : ℕ → ℕ → List Row → HeightSeen
+unfoldable pub heightIn : ℕ → ℕ → List RowWords → HeightSeen
 heightIn ellipsoid seaLevel rs = heightBy (valueFor ellipsoid rs) (valueFor seaLevel rs)
 
 pub data CornerSeen : Type 0 where
@@ -57,17 +57,17 @@ sumOf (At a) Off = Off
 sumOf (At a) (At b) = At (a +ℤ b)
 
 -- the coordinate of a full row, and that of a centre row and an offset row
-abbrev pub fullCoordinate : ℕ → List Row → Value
+abbrev pub fullCoordinate : ℕ → List RowWords → Value
 fullCoordinate full rs = valueFor full rs
 
-abbrev pub offsetCoordinate : ℕ → ℕ → List Row → Value
+abbrev pub offsetCoordinate : ℕ → ℕ → List RowWords → Value
 offsetCoordinate centre offset rs = sumOf (valueFor centre rs) (valueFor offset rs)
 
 -- "full rows 80+2k, 81+2k and offset rows 24+2k, 25+2k", with the frame centre's rows 23 and 24
-unfoldable pub fullCorner : ℕ → List Row → CornerSeen
+unfoldable pub fullCorner : ℕ → List RowWords → CornerSeen
 fullCorner k rs = pointOf (fullCoordinate (80 + 2 * k) rs) (fullCoordinate (81 + 2 * k) rs)
 
-unfoldable pub offsetCorner : ℕ → List Row → CornerSeen
+unfoldable pub offsetCorner : ℕ → List RowWords → CornerSeen
 offsetCorner k rs = pointOf (offsetCoordinate 23 (24 + 2 * k) rs) (offsetCoordinate 24 (25 + 2 * k) rs)
 
 -- "If both full rows are present they decide"
@@ -77,11 +77,11 @@ otherwise offTheEarth other = offTheEarth
 otherwise (on a b) other = on a b
 
 -- "Any other k is missing."
-unfoldable pub cornerIn : ℕ → List Row → CornerSeen
+unfoldable pub cornerIn : ℕ → List RowWords → CornerSeen
 cornerIn k rs = cond (ltb 0 k && ltb k 5) (otherwise (fullCorner k rs) (offsetCorner k rs)) noCorner
 
 -- what a receiver works out of the rows of a packet, or "first … the reader's refusal (never 2)"
-unfoldable pub fromRows : {A : Type 0} → (List Row → A) → TagSet → List ℕ → Answer A
+unfoldable pub fromRows : {A : Type 0} → (List RowWords → A) → TagSet → List ℕ → Answer A
 fromRows f K p = map (λ is. f (rowsOf (holds K) is)) (received K p)
 
 abbrev pub sensorHeight : TagSet → List ℕ → Answer HeightSeen

@@ -6,7 +6,8 @@ use mathlib.Core.List.{List, [], _∷_}
 use lib.Dec.{eqb}
 use lib.Signed.{mag}
 use Rattle.refusal.specs.Answer.{Answer, given, refused}
-use Rattle.rows.specs.Meaning.{Meaning, reading, mark, text, carried, isNumber, Row}
+use Rattle.rows.specs.Meaning.{Meaning, reading, mark, text, carried, isNumber}
+use Rattle.rows.specs.declared.RowWords.{RowWords}
 use Rattle.rows.specs.Taken.{rowSays}
 use Rattle.scale.specs.Conversions.{toHouse}
 use Rattle.scale.specs.declared.House.{House}
@@ -25,11 +26,11 @@ valueSeen tag (mark code size) = Off
 valueSeen tag (text a) = Absent
 valueSeen tag (carried a) = Absent
 
-unfoldable pub valueBy : Row → Value
+unfoldable pub valueBy : RowWords → Value
 valueBy r = valueSeen (r .tag) (rowSays r)
 
 -- the row of a tag, among readings and marks
-unfoldable pub valueFor : ℕ → List Row → Value
+unfoldable pub valueFor : ℕ → List RowWords → Value
 valueFor t [] = Absent
 valueFor t (r ∷ rs) = cond (eqb (r .tag) t && isNumber (rowSays r)) (valueBy r) (valueFor t rs)
 

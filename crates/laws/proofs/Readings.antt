@@ -26,7 +26,8 @@ use Rattle.packet.specs.Structure.{structure}
 use Rattle.packet.specs.Judge.{Knowing, Judged, fine, faulty, noVersion, judge}
 use Rattle.packet.specs.Verdict.{placed, verdict}
 use Rattle.packet.specs.Encode.{encode, canonical}
-use Rattle.rows.specs.Meaning.{shapeFor, meaningOf, kindOf, kindFor, codeOf, isNumber, saidBy, Row, markCode}
+use Rattle.rows.specs.Meaning.{shapeFor, meaningOf, kindOf, kindFor, codeOf, isNumber, saidBy, markCode}
+use Rattle.rows.specs.declared.RowWords.{RowWords}
 use Rattle.rows.specs.Taken.{partLength, rowSays, GoodRow}
 use Rattle.rows.proofs.Laws.{kind-seen}
 use Rattle.packet.specs.Rows.{rowOf, rowsOf, bytesAt, pieceOf, piecesOf, tableOf, lentVerdict, Filled, filledBy, readAnswer, tableBy, readTable, rowsIn}
@@ -52,7 +53,7 @@ module _ (K : Knowing) (b q : List ℕ) where
   row-size j l = digits-mod (j .place) (l .short)
 
   -- a row and the row of its piece, wherever that is read
-  same-row : (r : Row) (j : Item) → Made K b r → Lies q j → pieceOf K b r ≡ j .piece → SameRow b q r (rowOf K j)
+  same-row : (r : RowWords) (j : Item) → Made K b r → Lies q j → pieceOf K b r ≡ j .piece → SameRow b q r (rowOf K j)
   unfolding rowOf pieceOf
   same-row r j m l e =
       record {
@@ -73,7 +74,7 @@ module _ (K : Knowing) (b q : List ℕ) where
       pointed Absent f h = rw f
 
   -- the checksum's row
-  sum-row : (r : Row) (j : Item) (v w : List ℕ) → K 1 ≡ true → Made K b r → Lies q j → length v ≡ length w
+  sum-row : (r : RowWords) (j : Item) (v w : List ℕ) → K 1 ≡ true → Made K b r → Lies q j → length v ≡ length w
       → pieceOf K b r ≡ sumPiece v → j .piece ≡ sumPiece w → SameRow b q r (rowOf K j)
   unfolding pieceOf rowOf shapeFor shapeOf itemOf itemIn groups member
   sum-row r j v w k m l e f g =
@@ -89,7 +90,7 @@ module _ (K : Knowing) (b q : List ℕ) where
       }
 
   -- rows, and the rows of their pieces, the checksum's value aside
-  pub same-table : K 1 ≡ true → {cs ds : List Piece} → SameBut cs ds → (rs : List Row) (js : List Item) → piecesOf K b rs ≡ cs → pieces js ≡ ds
+  pub same-table : K 1 ≡ true → {cs ds : List Piece} → SameBut cs ds → (rs : List RowWords) (js : List Item) → piecesOf K b rs ≡ cs → pieces js ≡ ds
       → Each (Made K b) rs → Each (Lies q) js → SameTable b q rs (rowsOf K js)
   unfolding piecesOf rowsOf
   same-table k (atLast e) [] js f g m l = never (cc)
@@ -102,7 +103,7 @@ module _ (K : Knowing) (b q : List ℕ) where
   same-table k (further s) (r ∷ rs) (j ∷ js) f g m l = oneMore (same-row r j (m .0) (l .0) (cc)) (same-table k s rs js (cc) (cc) (m .1) (l .1))
 
 -- rows of which none is bad, that a receiver writes and itself reads back
-module _ (K : Knowing) (b : List ℕ) (rs : List Row) (k : K 1 ≡ true) (g : Each (GoodRow K b) rs) (s : Sendable (piecesOf K b rs))
+module _ (K : Knowing) (b : List ℕ) (rs : List RowWords) (k : K 1 ≡ true) (g : Each (GoodRow K b) rs) (s : Sendable (piecesOf K b rs))
     (e : judge K (piecesOf K b rs) ≡ fine) where
   back : ReadBack (piecesOf K b rs)
   back = read-back (piecesOf K b rs) s

@@ -19,7 +19,8 @@ use Rattle.catalogue.specs.Items.{groups, member, itemIn, itemOf}
 use Rattle.catalogue.specs.Shapes.{shapeOf}
 use Rattle.catalogue.specs.declared.Shape.{Shape}
 use Rattle.catalogue.specs.declared.Shape.the-variants.{Text, Number, Absent}
-use Rattle.rows.specs.Meaning.{Row, shapeFor, meaningOf, kindOf, kindFor, codeOf}
+use Rattle.rows.specs.Meaning.{shapeFor, meaningOf, kindOf, kindFor, codeOf}
+use Rattle.rows.specs.declared.RowWords.{RowWords}
 use Rattle.rows.proofs.Laws.{kind-seen, code-seen}
 use Rattle.rows.specs.Taken.{partPlace, partLength, tagGood, codeGood, contentGood, rowGood, GoodRow}
 use Rattle.packet.specs.Pieces.{Item, pieces}
@@ -33,7 +34,7 @@ use Rattle.laws.proofs.Forward.{items-tagged}
 use Rattle.laws.proofs.Sent.{Lies, lies-bytes, SizedFor, number-width, accepted-sized, accepted-lie}
 
 -- a row as a receiver gives it to the piece that it stands for; the checksum's code is any
-pub record Made (K : Knowing) (b : List ℕ) (r : Row) : Type 0 where
+pub record Made (K : Knowing) (b : List ℕ) (r : RowWords) : Type 0 where
   pub kind : r .kind ≡ kindOf (meaningOf (shapeFor K (r .tag)) (pieceOf K b r .value))
   pub code : (r .tag ≡ 1 → ⊥) → r .code ≡ codeOf (meaningOf (shapeFor K (r .tag)) (pieceOf K b r .value))
   pub size : partLength (r .part) ≡ length (pieceOf K b r .value)
@@ -46,7 +47,7 @@ sum-unmarked K width marked e =
     (λ k. let f : Number 2 false ≡ Number width marked = rw k at e in cc)
     (λ k. let f : Absent ≡ Number width marked = rw k at e in never (cc))
 
-module _ (K : Knowing) (b : List ℕ) (r : Row) where
+module _ (K : Knowing) (b : List ℕ) (r : RowWords) where
   number-made : (width : ℕ) (marked : Bool) → shapeFor K (r .tag) ≡ Number width marked → r .kind ≡ kindFor (Number width marked) (r .code)
       → contentGood (Number width marked) (length b) r ≡ true → Made K b r
   unfolding pieceOf
@@ -99,11 +100,11 @@ module _ (K : Knowing) (b : List ℕ) (r : Row) where
       let t = both-left (tagGood (r .tag)) _ e in
       record { some = ltb-true _ _ (both-left (ltb 0 (r .tag)) _ t); small = ltb-true _ _ (both-right (ltb 0 (r .tag)) _ t) }
 
-pub all-made : (K : Knowing) (b : List ℕ) (rs : List Row) → Each (GoodRow K b) rs → Each (Made K b) rs
+pub all-made : (K : Knowing) (b : List ℕ) (rs : List RowWords) → Each (GoodRow K b) rs → Each (Made K b) rs
 all-made K b [] g = tt
 all-made K b (r ∷ rs) g = (good-made K b r (g .0), all-made K b rs (g .1))
 
-pub all-tagged : (K : Knowing) (b : List ℕ) (rs : List Row) → Each (GoodRow K b) rs → Each Tagged (piecesOf K b rs)
+pub all-tagged : (K : Knowing) (b : List ℕ) (rs : List RowWords) → Each (GoodRow K b) rs → Each Tagged (piecesOf K b rs)
 unfolding piecesOf
 all-tagged K b [] g = tt
 all-tagged K b (r ∷ rs) g = (good-tagged K b r (g .0), all-tagged K b rs (g .1))

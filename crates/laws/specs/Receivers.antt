@@ -4,7 +4,8 @@ use mathlib.Core.Path.{_≡_}
 use mathlib.Core.Bool.{true, false}
 use mathlib.Core.List.{List}
 use Rattle.refusal.specs.Answer.{Answer, given, refused}
-use Rattle.rows.specs.Meaning.{Row, carriedKind}
+use Rattle.rows.specs.Meaning.{carriedKind}
+use Rattle.rows.specs.declared.RowWords.{RowWords}
 use Rattle.packet.specs.Judge.{Knowing}
 use Rattle.packet.specs.Rows.{Filled, rowsIn, SameTable}
 
@@ -18,11 +19,11 @@ pub record Only (K K′ : Knowing) (t : ℕ) : Type 0 where
   pub known : K′ t ≡ true
 
 -- the row of the same item, carried: code 0, the same place and length
-abbrev pub carried : Row → Row
+abbrev pub carried : RowWords → RowWords
 carried r = record { tag = r .tag; kind = carriedKind; code = 0; part = r .part }
 
 -- the row that K gives, beside the row that K′ gives to the same item
-pub record SmallerRow (K : Knowing) (r r′ : Row) : Type 0 where
+pub record SmallerRow (K : Knowing) (r r′ : RowWords) : Type 0 where
   pub known : K (r′ .tag) ≡ true → r ≡ r′
   pub unknown : K (r′ .tag) ≡ false → r ≡ carried r′
 

@@ -18,7 +18,7 @@ use Rattle.tagset.specs.Sets.{holds}
 use Rattle.tagset.specs.declared.TagSet.{TagSet}
 use Rattle.catalogue.specs.Rows.{allTags}
 use Rattle.knowing.specs.Good.{good}
-use Rattle.rows.specs.Meaning.{Row}
+use Rattle.rows.specs.declared.RowWords.{RowWords}
 use Rattle.packet.specs.Pieces.{Item}
 use Rattle.packet.specs.Judge.{Knowing}
 use Rattle.packet.specs.Allowed.{Formed}
@@ -53,7 +53,7 @@ module _ {text o : List ℕ} {size : ℕ} (s : size ≡ length text) {r : Listin
       let k : length text ≤ length o = omega arith in
       record { answer = e ∙ (ap given s ∙ rw (le-ltb _ _ k)); output = w .output }
 
-pub rows-long : (p : List ℕ) (rs : List Row) {size : ℕ} → size ≡ length (linesOf p rs) → 21 + size ≡ length (header ++ linesOf p rs)
+pub rows-long : (p : List ℕ) (rs : List RowWords) {size : ℕ} → size ≡ length (linesOf p rs) → 21 + size ≡ length (header ++ linesOf p rs)
 unfolding header
 rows-long p rs e = ap (λ k. 21 + k) e ∙ sym (length-append header (linesOf p rs))
 

@@ -9,7 +9,7 @@ use lib.ListN.{length, length-append}
 use Rattle.base.specs.Every.{Each}
 use Rattle.base.specs.Putting.{putInto, Room, Wrote}
 use Rattle.base.proofs.Putting.{to-write, wrote-room, room-first, wrote-rest, wrote-nothing}
-use Rattle.rows.specs.Meaning.{Row}
+use Rattle.rows.specs.declared.RowWords.{RowWords}
 use Rattle.rows.specs.Taken.{rowAt}
 use Rattle.packet.specs.Rows.{rowsIn}
 use Rattle.laws.proofs.Tables.{rows-from, rows-none}
@@ -17,16 +17,16 @@ use Rattle.listing.specs.Lines.{lineOf, linesOf}
 use Rattle.listing.specs.code.Listable.{InPacket, Listable}
 
 -- rows are left, and their lines are so long
-pub record Uncounted (p : List ℕ) (rs : List Row) (size total : ℕ) : Type 0 where
+pub record Uncounted (p : List ℕ) (rs : List RowWords) (size total : ℕ) : Type 0 where
   pub inside : Each (InPacket p) rs
   pub sum : size + length (linesOf p rs) ≡ total
 
 -- rows are left, and put at a place their lines make the output x and end at a place
-pub record Unwritten (p : List ℕ) (rs : List Row) (o : List ℕ) (at : ℕ) (x : List ℕ) (end : ℕ) : Type 0 where
+pub record Unwritten (p : List ℕ) (rs : List RowWords) (o : List ℕ) (at : ℕ) (x : List ℕ) (end : ℕ) : Type 0 where
   pub inside : Each (InPacket p) rs
   pub rest : Wrote o at (linesOf p rs) end x
 
-module _ (p : List ℕ) (r : Row) (rs : List Row) where
+module _ (p : List ℕ) (r : RowWords) (rs : List RowWords) where
   both-long : length (linesOf p (r ∷ rs)) ≡ length (lineOf p r) + length (linesOf p rs)
   unfolding linesOf
   both-long = length-append (lineOf p r) (linesOf p rs)
@@ -45,10 +45,10 @@ module _ (p : List ℕ) (r : Row) (rs : List Row) where
 
 -- the rows of a table from the one numbered n on
 module _ (p words : List ℕ) (n count : ℕ) where
-  abbrev left : List Row
+  abbrev left : List RowWords
   left = rowsIn n (count - n) words
 
-  abbrev after : List Row
+  abbrev after : List RowWords
   after = rowsIn (n + 1) (count - (n + 1)) words
 
   module _ {size total : ℕ} (u : Uncounted p left size total) where
@@ -56,7 +56,7 @@ module _ (p words : List ℕ) (n count : ℕ) where
     unfolding linesOf
     all-counted h = let v : Uncounted p [] size total = rw (rows-none words n count h) at u in omega (arith, v .sum)
 
-    module _ (h : n < count) (r : Row) (e : r ≡ rowAt words n) where
+    module _ (h : n < count) (r : RowWords) (e : r ≡ rowAt words n) where
       this-uncounted : Uncounted p (r ∷ after) size total
       this-uncounted = rw e (rw (rows-from words n count h) at u)
 
@@ -74,7 +74,7 @@ module _ (p words : List ℕ) (n count : ℕ) where
     unfolding linesOf
     all-written h = let v : Unwritten p [] o at x end = rw (rows-none words n count h) at u in wrote-nothing (v .rest)
 
-    module _ (h : n < count) (r : Row) (e : r ≡ rowAt words n) where
+    module _ (h : n < count) (r : RowWords) (e : r ≡ rowAt words n) where
       this-unwritten : Unwritten p (r ∷ after) o at x end
       this-unwritten = rw e (rw (rows-from words n count h) at u)
 

@@ -14,7 +14,7 @@ use Rattle.number.specs.Stored.{Bytes}
 use Rattle.tagset.specs.Sets.{holds}
 use Rattle.catalogue.specs.Rows.{allTags}
 use Rattle.knowing.specs.Good.{good}
-use Rattle.rows.specs.Meaning.{Row}
+use Rattle.rows.specs.declared.RowWords.{RowWords}
 use Rattle.rows.specs.Taken.{partPlace, partLength, partOf}
 use Rattle.rows.proofs.Laws.{says-carried}
 use Rattle.packet.specs.Pieces.{Item, pieces}
@@ -53,7 +53,7 @@ number-most : (a : Answer House) (code : ℕ) → length (numberText a code) ≤
 number-most (given h) code = whole-most (h .value)
 number-most (refused n p t) code = omega (arith, decimal-few code)
 
-content-short : (p : List ℕ) (r : Row) → length (contentText p r) ≤ 28 + 2 * length (bytesAt p r)
+content-short : (p : List ℕ) (r : RowWords) → length (contentText p r) ≤ 28 + 2 * length (bytesAt p r)
 unfolding contentText numberWord markWord textWord carriedWord
 content-short p r =
     byEq (r .kind) 1
@@ -64,7 +64,7 @@ content-short p r =
     (λ g. rw (g, length-append) (omega (arith, hex-length (bytesAt p r))))
     (λ g. rw (says-carried (r .kind) (r .code) (partLength (r .part)) (partOf (r .part)) e f g, length-append) (omega (arith, hex-length (bytesAt p r))))))
 
-content-most : (p : List ℕ) (r : Row) → length (contentText p r) ≤ 131098
+content-most : (p : List ℕ) (r : RowWords) → length (contentText p r) ≤ 131098
 content-most p r =
     let l : length (bytesAt p r) ≤ partLength (r .part) = rw length-take (omega arith) in
     let s : partLength (r .part) < 65536 = omega arith in
@@ -77,7 +77,7 @@ number-few tag code e = omega (arith, number-most (toHouse tag code) code)
 pub decimal-fits : (n : ℕ) {size : ℕ} → size ≡ length (decimal n) → size ≤ 20
 decimal-fits n e = omega (arith, decimal-few n)
 
-pub content-few : (p : List ℕ) (r : Row) {size : ℕ} → size ≡ length (contentText p r) → size ≤ 131098
+pub content-few : (p : List ℕ) (r : RowWords) {size : ℕ} → size ≡ length (contentText p r) → size ≤ 131098
 content-few p r e = omega (arith, content-most p r)
 
 module _ (K : Knowing) (p : List ℕ) (small : length p ≤ 8192) where

@@ -10,7 +10,8 @@ use mir.Syntax.{w64}
 use mir.Val.{SFits, toZ, ofZ}
 use mir.Facts.{toZ-ofZ}
 use Rattle.base.proofs.Parts.{part-lent}
-use Rattle.rows.specs.Meaning.{Meaning, mapMeaning, Row}
+use Rattle.rows.specs.Meaning.{Meaning, mapMeaning}
+use Rattle.rows.specs.declared.RowWords.{RowWords}
 use Rattle.rows.specs.Taken.{partPlace, partLength, rowSays}
 use Rattle.rows.specs.declared.Part.{Part}
 use Rattle.rows.proofs.Laws.{says-reading, says-mark, says-text, says-carried}
@@ -34,7 +35,7 @@ module _ (tag code : ℕ) {h : ToHouse} (e : houseSaid h ≡ toHouse tag code) w
   pub whole-said : {x : House} → SFits w64 (x .value) → h ≡ Is x → whole (toZ w64 (ofZ w64 (x .value))) ≡ numberText (toHouse tag code) code
   whole-said fits f = ap whole (toZ-ofZ fits) ∙ number-said f
 
-module _ (p : List ℕ) (r : Row) where
+module _ (p : List ℕ) (r : RowWords) where
   -- a value as the code lends it
   pub value-lent : hex (take (partPlace (r .part) + partLength (r .part) - partPlace (r .part)) (drop (partPlace (r .part)) p)) ≡ hex (bytesAt p r)
   value-lent = ap hex (part-lent p (partPlace (r .part)) (partLength (r .part)))

@@ -3,7 +3,8 @@ use Prim.Native.Nat.{ℕ}
 use mathlib.Core.List.{List, [], _∷_, _++_}
 use lib.ListN.{take, drop}
 use Rattle.refusal.specs.Answer.{Answer, given, refused}
-use Rattle.rows.specs.Meaning.{Meaning, reading, mark, text, carried, mapMeaning, Row}
+use Rattle.rows.specs.Meaning.{Meaning, reading, mark, text, carried, mapMeaning}
+use Rattle.rows.specs.declared.RowWords.{RowWords}
 use Rattle.rows.specs.Taken.{partPlace, rowSays}
 use Rattle.rows.specs.declared.Part.{Part}
 use Rattle.scale.specs.Conversions.{toHouse}
@@ -57,14 +58,14 @@ meaningText tag (carried bytes) = carriedWord ++ hex bytes
 abbrev pub bytesIn : List ℕ → Part → List ℕ
 bytesIn p part = take (part .length) (drop (part .place) p)
 
-unfoldable pub contentText : List ℕ → Row → List ℕ
+unfoldable pub contentText : List ℕ → RowWords → List ℕ
 contentText p r = meaningText (r .tag) (mapMeaning (bytesIn p) (rowSays r))
 
 -- "Place is the value's."
-unfoldable pub lineOf : List ℕ → Row → List ℕ
+unfoldable pub lineOf : List ℕ → RowWords → List ℕ
 lineOf p r = field (partPlace (r .part)) ++ (field (r .tag) ++ (contentText p r ++ newline))
 
-unfoldable pub linesOf : List ℕ → List Row → List ℕ
+unfoldable pub linesOf : List ℕ → List RowWords → List ℕ
 linesOf p [] = []
 linesOf p (r ∷ rs) = lineOf p r ++ linesOf p rs
 

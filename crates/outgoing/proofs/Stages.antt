@@ -18,7 +18,8 @@ use Rattle.tagset.proofs.Laws.{Words, holds-none}
 use Rattle.knowing.specs.Good.{good}
 use Rattle.catalogue.specs.Items.{groups, member, itemIn, itemOf}
 use Rattle.catalogue.specs.Shapes.{shapeOf, codeAllowed}
-use Rattle.rows.specs.Meaning.{Row, shapeFor}
+use Rattle.rows.specs.Meaning.{shapeFor}
+use Rattle.rows.specs.declared.RowWords.{RowWords}
 use Rattle.rows.specs.Taken.{partLength, rowGood, tagShown, countGood, rowAt, GoodRow}
 use Rattle.packet.specs.Pieces.{Piece}
 use Rattle.packet.specs.Ends.{rightEnds}
@@ -34,27 +35,27 @@ use Rattle.outgoing.specs.code.Staged.{rowsSize, packedBy, rowFault, unl
 
 -- no row is bad
 module _ (K : Knowing) (b : List ℕ) where
-  pub all-good : (k : ℕ) (rs : List Row) → rightRows K (length b) k rs ≡ given tt → Each (GoodRow K b) rs
+  pub all-good : (k : ℕ) (rs : List RowWords) → rightRows K (length b) k rs ≡ given tt → Each (GoodRow K b) rs
   unfolding rightRows
   all-good k [] e = tt
   all-good k (r ∷ rs) e =
       let g = passed (rowGood (shapeFor K (r .tag)) (length b) r) _ 17 k (tagShown (r .tag)) e in
       (g .0, all-good (suc k) rs (g .1))
 
-  pub good-all : (k : ℕ) (rs : List Row) → Each (GoodRow K b) rs → rightRows K (length b) k rs ≡ given tt
+  pub good-all : (k : ℕ) (rs : List RowWords) → Each (GoodRow K b) rs → rightRows K (length b) k rs ≡ given tt
   unfolding rightRows
   good-all k [] g = refl
   good-all k (r ∷ rs) g = rw (g .0) (good-all (suc k) rs (g .1))
 
   -- the items' bytes
-  items-size : (rs : List Row) → Each (GoodRow K b) rs → length (itemsBytes (piecesOf K b rs)) ≡ rowsSize rs
+  items-size : (rs : List RowWords) → Each (GoodRow K b) rs → length (itemsBytes (piecesOf K b rs)) ≡ rowsSize rs
   unfolding itemsBytes piecesOf pieceOf rowsSize
   items-size [] g = refl
   items-size (r ∷ rs) g =
       let m = good-made K b r (g .0) in
       rw (length-append, length-item, items-size rs (g .1), ← m .size) (omega arith)
 
-  packet-size : (rs : List Row) → Each (GoodRow K b) rs → packedOf (piecesOf K b rs) ≡ packedBy (rowsSize rs)
+  packet-size : (rs : List RowWords) → Each (GoodRow K b) rs → packedOf (piecesOf K b rs) ≡ packedBy (rowsSize rs)
   packet-size rs g =
       let items : length (itemsBytes (piecesOf K b rs)) ≡ rowsSize rs = items-size rs g in
       let size : length (encode (piecesOf K b rs)) ≡ packedBy (rowsSize rs) .size = length-encode (piecesOf K b rs) ∙ rw items in
@@ -125,16 +126,16 @@ stages-map f (given u) (given v) (refused n p t) x = refl
 stages-map f (given u) (given v) (given w) x = refl
 
 module _ (K : TagSet) (w : Words K) (b : List ℕ) where
-  abbrev Good : Row → Type 0
+  abbrev Good : RowWords → Type 0
   Good r = GoodRow (holds K) b r
 
   -- the items whose codes are limited are numbers
-  limited-code : (r : Row) → Good r → holds K (r .tag) ≡ true → shapeOf (r .tag) ≡ shapeOf 34 → (r .tag ≡ 1 → ⊥)
+  limited-code : (r : RowWords) → Good r → holds K (r .tag) ≡ true → shapeOf (r .tag) ≡ shapeOf 34 → (r .tag ≡ 1 → ⊥)
       → r .code ≡ valueOf (pieceOf (holds K) b r .value)
   unfolding shapeFor shapeOf itemOf itemIn member groups
   limited-code r g k e other = rw (k, e) at (good-made (holds K) b r g .code other)
 
-  same-code : (r : Row) → Good r → holds K (r .tag) ≡ true → (n : ℕ)
+  same-code : (r : RowWords) → Good r → holds K (r .tag) ≡ true → (n : ℕ)
       → codeAllowed (r .tag) n (r .code) ≡ codeAllowed (r .tag) n (valueOf (pieceOf (holds K) b r .value))
   unfolding codeAllowed
   same-code r g k n =
@@ -142,7 +143,7 @@ module _ (K : TagSet) (w : Words K) (b : List ℕ) where
       (λ x. byEq (r .tag) 63 (λ e. ap (codeAllowed (r .tag) n) (limited-code r g k (ap shapeOf e ∙ sixty-three) (λ f. omega arith)))
       (λ y. rw (ne-eqb (r .tag) 34 x, ne-eqb (r .tag) 63 y)))
 
-  same-fault : (seen : TagSet) (ts : List ℕ) (r : Row) → Good r → SeenBy seen ts → rowFault K seen r ≡ faultOf (holds K) (among ts) (pieceOf (holds K) b r)
+  same-fault : (seen : TagSet) (ts : List ℕ) (r : RowWords) → Good r → SeenBy seen ts → rowFault K seen r ≡ faultOf (holds K) (among ts) (pieceOf (holds K) b r)
   unfolding rowFault faultOf pieceOf
   same-fault seen ts r g s =
       byLt (r .tag) 128
@@ -155,7 +156,7 @@ module _ (K : TagSet) (w : Words K) (b : List ℕ) where
   by-fault P c x clean = c
   by-fault P c x (wrong n) = x n
 
-  judged-rows : (k : ℕ) (seen : TagSet) (ts : List ℕ) (rs : List Row) → Each Good rs → SeenBy seen ts
+  judged-rows : (k : ℕ) (seen : TagSet) (ts : List ℕ) (rs : List RowWords) → Each Good rs → SeenBy seen ts
       → judgedFrom k (judgeFrom (holds K) ts (piecesOf (holds K) b rs)) ≡ rowsJudged K seen k rs
   unfolding judgedFrom judgeFrom rowsJudged piecesOf pieceOf
   judged-rows k seen ts [] g s = rw (s .each 65 (omega arith)) (byBool (has 65 ts) (λ f. rw f) (λ f. rw f))
@@ -168,7 +169,7 @@ module _ (K : TagSet) (w : Words K) (b : List ℕ) where
       let wrongly : (n : ℕ) → goes (wrong n) = λ n. let e : k + 0 ≡ k = omega arith in ap (λ x. refused n x t) e in
       rw (same-fault seen ts r (g .0) s) (by-fault goes cleanly wrongly (faultOf (holds K) (among ts) (pieceOf (holds K) b r)))
 
-  judged-all : (rs : List Row) → Each Good rs → byRow (judge (holds K) (piecesOf (holds K) b rs)) ≡ rowsJudged K noTags 0 rs
+  judged-all : (rs : List RowWords) → Each Good rs → byRow (judge (holds K) (piecesOf (holds K) b rs)) ≡ rowsJudged K noTags 0 rs
   unfolding judge
   judged-all rs g = judged-row (judge (holds K) (piecesOf (holds K) b rs)) ∙ judged-rows 0 noTags [] rs g none-seen
 
@@ -177,7 +178,7 @@ module _ (K : TagSet) (w : Words K) (b : List ℕ) where
         → map packedOf (sendable (holds K) (piecesOf (holds K) b (rowsIn 0 count words))) ≡ sizedIn K count words
     unfolding sendable
     sized-all g =
-        let rs : List Row = rowsIn 0 count words in
+        let rs : List RowWords = rowsIn 0 count words in
         let cs : List Piece = piecesOf (holds K) b rs in
         stages-map packedOf (rightSize (length (encode cs))) (rightEnds (endsOf cs)) (byRow (judge (holds K) cs)) cs
         ∙ (ap (λ z. then (rightSize (z .size)) (λ _. then (rightEnds (endsOf cs)) (λ _. then (byRow (judge (holds K) cs)) (λ _. given z))))

@@ -14,7 +14,8 @@ use Rattle.ber.proofs.Laws.{sized}
 use Rattle.tagset.specs.Sets.{holds, withTag}
 use Rattle.tagset.specs.declared.TagSet.{TagSet}
 use Rattle.catalogue.specs.declared.Shape.{Shape}
-use Rattle.rows.specs.Meaning.{Row, shapeFor}
+use Rattle.rows.specs.Meaning.{shapeFor}
+use Rattle.rows.specs.declared.RowWords.{RowWords}
 use Rattle.rows.specs.Taken.{partLength, rowGood, tagShown, rowAt}
 use Rattle.packet.specs.Judge.{Knowing, Fault, clean, wrong}
 use Rattle.laws.proofs.Tables.{rows-from, rows-none}
@@ -31,12 +32,12 @@ tag-most t =
     (λ f. byBool (ltb t 16384) (λ g. rw (e, f, g) (omega arith))
     (λ g. byBool (ltb t 2097152) (λ h. rw (e, f, g, h) (omega arith)) (λ h. rw (e, f, g, h) (omega arith)))))
 
-pub record Small (r : Row) : Type 0 where
+pub record Small (r : RowWords) : Type 0 where
   pub tag : length (tagBytes (r .tag)) ≤ 3
   pub head : length (lengthBytes (partLength (r .part))) ≤ 5
   pub value : partLength (r .part) < 65536
 
-pub row-small : (r : Row) → Small r
+pub row-small : (r : RowWords) → Small r
 row-small r =
     let v : partLength (r .part) < 65536 = omega arith in
     record { tag = tag-most (r .tag); head = sized (partLength (r .part)) (omega (arith, v)) .most; value = v }
@@ -50,7 +51,7 @@ rows-small k (suc n) words =
 
 module _ (words : List ℕ) (count n : ℕ) where
   module _ (h : n < count) where
-    abbrev rest : List Row
+    abbrev rest : List RowWords
     rest = rowsIn (n + 1) (count - (n + 1)) words
 
     pub size-more : rowsSize (rowsIn n (count - n) words) ≡ rowSize (rowAt words n) + rowsSize (rowsIn (n + 1) (count - (n + 1)) words)
@@ -58,7 +59,7 @@ module _ (words : List ℕ) (count n : ℕ) where
     size-more = rw (rows-from words n count h)
 
     -- a row as the code has it
-    module _ (r : Row) (same : r ≡ rowAt words n) where
+    module _ (r : RowWords) (same : r ≡ rowAt words n) where
       module _ (K : Knowing) (room : ℕ) (s : Shape) (shape : s ≡ shapeFor K (r .tag)) where
         pub good-more : rowGood s room r ≡ true
             → rightRows K room n (rowsIn n (count - n) words) ≡ rightRows K room (n + 1) (rowsIn (n + 1) (count - (n + 1)) words)

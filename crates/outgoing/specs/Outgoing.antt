@@ -9,7 +9,8 @@ use Rattle.refusal.specs.Answer.{Answer, given, refused, then}
 use Rattle.tagset.specs.Sets.{holds}
 use Rattle.tagset.specs.declared.TagSet.{TagSet}
 use Rattle.knowing.specs.Good.{good}
-use Rattle.rows.specs.Meaning.{Row, shapeFor}
+use Rattle.rows.specs.Meaning.{shapeFor}
+use Rattle.rows.specs.declared.RowWords.{RowWords}
 use Rattle.rows.specs.Taken.{rowGood, tagShown, countGood}
 use Rattle.packet.specs.Pieces.{Piece}
 use Rattle.packet.specs.Ends.{rightEnds}
@@ -27,7 +28,7 @@ abbrev pub rightCount : ℕ → List ℕ → Answer (Unit {0})
 rightCount count words = cond (countGood count (length words)) (given tt) (refused 16 0 0)
 
 -- 17, for rows numbered from k on
-unfoldable pub rightRows : Knowing → ℕ → ℕ → List Row → Answer (Unit {0})
+unfoldable pub rightRows : Knowing → ℕ → ℕ → List RowWords → Answer (Unit {0})
 rightRows K room k [] = given tt
 rightRows K room k (r ∷ rs) =
     cond (rowGood (shapeFor K (r .tag)) room r) (rightRows K room (suc k) rs) (refused 17 k (tagShown (r .tag)))

@@ -13,7 +13,8 @@ use Rattle.tagset.specs.declared.TagSet.{TagSet}
 use Rattle.knowing.specs.Good.{good}
 use Rattle.catalogue.specs.declared.Shape.{Shape}
 use Rattle.catalogue.specs.declared.Shape.the-variants.{Text, Number, Absent}
-pub use Rattle.rows.specs.Meaning.{Row, meaningOf, kindOf, codeOf, isNumber}
+pub use Rattle.rows.specs.Meaning.{meaningOf, kindOf, codeOf, isNumber}
+pub use Rattle.rows.specs.declared.RowWords.{RowWords}
 unfoldable pub use Rattle.rows.specs.Meaning.{shapeFor}
 use Rattle.rows.specs.Taken.{partPlace, partLength, rowSays, rowAt}
 pub use Rattle.rows.specs.declared.Filled.{Filled}
@@ -21,19 +22,19 @@ use Rattle.packet.specs.Pieces.{Piece, Item}
 use Rattle.packet.specs.Judge.{Knowing}
 use Rattle.packet.specs.Verdict.{verdict}
 
-abbrev pub rowBy : Shape → Item → Row
+abbrev pub rowBy : Shape → Item → RowWords
 rowBy shape i =
     let m = meaningOf shape (i .piece .value) in
     record { tag = i .piece .tag; kind = kindOf m; code = codeOf m; part = i .place * 65536 + length (i .piece .value) }
 
-unfoldable pub rowOf : Knowing → Item → Row
+unfoldable pub rowOf : Knowing → Item → RowWords
 rowOf K i = rowBy (shapeFor K (i .piece .tag)) i
 
-unfoldable pub rowsOf : Knowing → List Item → List Row
+unfoldable pub rowsOf : Knowing → List Item → List RowWords
 rowsOf K [] = []
 rowsOf K (i ∷ is) = rowOf K i ∷ rowsOf K is
 
-unfoldable pub words : List Row → List ℕ
+unfoldable pub words : List RowWords → List ℕ
 words [] = []
 words (r ∷ rs) = r .tag ∷ r .kind ∷ r .code ∷ r .part ∷ words rs
 
@@ -61,36 +62,36 @@ unfoldable pub readTable : TagSet → List ℕ → List ℕ → List ℕ
 readTable K p t = tableBy (holds K) t (lentVerdict K p t)
 
 -- n rows of a table, from the one numbered k on
-unfoldable pub rowsIn : ℕ → ℕ → List ℕ → List Row
+unfoldable pub rowsIn : ℕ → ℕ → List ℕ → List RowWords
 rowsIn k zero t = []
 rowsIn k (suc n) t = rowAt t k ∷ rowsIn (suc k) n t
 
 -- the bytes that a row points at in a buffer
-abbrev pub bytesAt : List ℕ → Row → List ℕ
+abbrev pub bytesAt : List ℕ → RowWords → List ℕ
 bytesAt b r = take (partLength (r .part)) (drop (partPlace (r .part)) b)
 
 -- the value that a row stands for: its code's bytes, or those that it points at
-abbrev pub rowValue : Shape → List ℕ → Row → List ℕ
+abbrev pub rowValue : Shape → List ℕ → RowWords → List ℕ
 rowValue (Number width marked) b r = bytesOf width (r .code)
 rowValue Text b r = bytesAt b r
 rowValue Absent b r = bytesAt b r
 
-unfoldable pub pieceOf : Knowing → List ℕ → Row → Piece
+unfoldable pub pieceOf : Knowing → List ℕ → RowWords → Piece
 pieceOf K b r = record { tag = r .tag; value = rowValue (shapeFor K (r .tag)) b r }
 
-unfoldable pub piecesOf : Knowing → List ℕ → List Row → List Piece
+unfoldable pub piecesOf : Knowing → List ℕ → List RowWords → List Piece
 piecesOf K b [] = []
 piecesOf K b (r ∷ rs) = pieceOf K b r ∷ piecesOf K b rs
 
 -- The same table is "the same count, tags, kinds, codes and lengths, and for text and carried rows the same value bytes; places and
 -- the checksum's code are left aside." b and c are the buffers that the rows point into.
-pub record SameRow (b c : List ℕ) (r s : Row) : Type 0 where
+pub record SameRow (b c : List ℕ) (r s : RowWords) : Type 0 where
   pub tag : r .tag ≡ s .tag
   pub kind : r .kind ≡ s .kind
   pub code : (r .tag ≡ 1 → ⊥) → r .code ≡ s .code
   pub size : partLength (r .part) ≡ partLength (s .part)
   pub value : isNumber (rowSays r) ≡ false → bytesAt b r ≡ bytesAt c s
 
-pub data SameTable (b c : List ℕ) : List Row → List Row → Type 0 where
+pub data SameTable (b c : List ℕ) : List RowWords → List RowWords → Type 0 where
   noRows : SameTable b c [] []
-  oneMore : {r s : Row} {rs ss : List Row} → SameRow b c r s → SameTable b c rs ss → SameTable b c (r ∷ rs) (s ∷ ss)
+  oneMore : {r s : RowWords} {rs ss : List RowWords} → SameRow b c r s → SameTable b c rs ss → SameTable b c (r ∷ rs) (s ∷ ss)

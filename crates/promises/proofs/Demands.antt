@@ -28,7 +28,7 @@ use Rattle.scale.specs.declared.Code.{Code}
 use Rattle.scale.specs.declared.ToCode.the-variants as code
 use Rattle.scale.proofs.Values.{NearestValue, house-nearest}
 use Rattle.scale.proofs.Codes.{NearestCode, code-nearest}
-use Rattle.rows.specs.Meaning.{Row}
+use Rattle.rows.specs.declared.RowWords.{RowWords}
 use Rattle.rows.specs.Taken.{rowAt}
 use Rattle.packet.specs.Verdict.{bodyOf, received, checked}
 use Rattle.packet.specs.Said.{checkSaid}
@@ -97,7 +97,7 @@ module _ (K : TagSet) (p : List ℕ) (x : Refusal) where
   check-never-2 e = never-two (checked-not K p) e
 
   -- heights and corners
-  pub ground-never-2 : {A : Type 0} (f : List Row → A) → refusal x ≡ fromRows f K p → number (x .reason) ≡ 2 → ⊥
+  pub ground-never-2 : {A : Type 0} (f : List RowWords → A) → refusal x ≡ fromRows f K p → number (x .reason) ≡ 2 → ⊥
   ground-never-2 f e = never-two (rows-not K p f) e
 
 -- and conversions

@@ -22,7 +22,8 @@ use Rattle.catalogue.specs.declared.Found.{Found}
 use Rattle.catalogue.specs.declared.Found.the-variants.{Known, Absent}
 use Rattle.knowing.specs.Good.{good}
 use Rattle.scale.specs.Conversions.{scaledItem, converted, toHouse, toCode}
-use Rattle.rows.specs.Meaning.{Row, shapeFor}
+use Rattle.rows.specs.Meaning.{shapeFor}
+use Rattle.rows.specs.declared.RowWords.{RowWords}
 use Rattle.rows.specs.Taken.{rowGood, countGood}
 use Rattle.packet.specs.Pieces.{Piece, Item, pieces, Step, noTag, noLength, one, readItem, itemAt, onward, walk}
 use Rattle.packet.specs.Ends.{rightEnds}
@@ -138,7 +139,7 @@ module _ (K : TagSet) (p : List ℕ) where
   unfolding checked
   checked-not = by-map _ received-not
 
-  pub rows-not : {A : Type 0} (f : List Row → A) → NotTwo (fromRows f K p)
+  pub rows-not : {A : Type 0} (f : List RowWords → A) → NotTwo (fromRows f K p)
   unfolding fromRows
   rows-not f = by-map _ received-not
 
@@ -148,7 +149,7 @@ module _ (K : TagSet) (p : List ℕ) where
   read-not t long = by-map _ {a = lentVerdict K p t} (rw (le-ltb (length t) 512 long) received-not)
 
 -- 17
-good-not : (K : Knowing) (room k : ℕ) (rs : List Row) → NotTwo (rightRows K room k rs)
+good-not : (K : Knowing) (room k : ℕ) (rs : List RowWords) → NotTwo (rightRows K room k rs)
 unfolding rightRows
 good-not K room k [] = gives
 good-not K room k (r ∷ rs) = by-test (rowGood (shapeFor K (r .tag)) room r) (good-not K room (suc k) rs) (other refl)

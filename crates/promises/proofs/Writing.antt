@@ -14,7 +14,7 @@ use Rattle.refusal.proofs.Answers.{given-same, missed, then-given, map-given}
 use Rattle.tagset.specs.Sets.{holds}
 use Rattle.tagset.specs.declared.TagSet.{TagSet}
 use Rattle.knowing.specs.Good.{good}
-use Rattle.rows.specs.Meaning.{Row}
+use Rattle.rows.specs.declared.RowWords.{RowWords}
 use Rattle.rows.proofs.Laws.{count-good}
 use Rattle.packet.specs.Pieces.{Piece, Item}
 use Rattle.packet.specs.Judge.{Knowing}
@@ -34,7 +34,7 @@ unfolding rowsIn
 rows-count k zero words = refl
 rows-count k (suc n) words = ap suc (rows-count (suc k) n words)
 
-pieces-count : (K : Knowing) (b : List ℕ) (rs : List Row) → length (piecesOf K b rs) ≡ length rs
+pieces-count : (K : Knowing) (b : List ℕ) (rs : List RowWords) → length (piecesOf K b rs) ≡ length rs
 unfolding piecesOf
 pieces-count K b [] = refl
 pieces-count K b (r ∷ rs) = ap suc (pieces-count K b rs)
@@ -44,7 +44,7 @@ unfolding rowsOf
 items-count K [] = refl
 items-count K (i ∷ is) = ap suc (items-count K is)
 
-same-count : {b c : List ℕ} {rs ss : List Row} → SameTable b c rs ss → length rs ≡ length ss
+same-count : {b c : List ℕ} {rs ss : List RowWords} → SameTable b c rs ss → length rs ≡ length ss
 same-count noRows = refl
 same-count (oneMore r s) = ap suc (same-count s)
 

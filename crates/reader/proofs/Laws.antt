@@ -16,7 +16,7 @@ use Rattle.catalogue.specs.declared.Shape.the-variants.{Text, Number, Absent}
 use Rattle.packet.specs.Pieces.{Item}
 use Rattle.rows.specs.Meaning.{kindFor}
 use Rattle.rows.proofs.Laws.{kind-seen, code-seen}
-use Rattle.packet.specs.Rows.{Row, meaningOf, kindOf, codeOf, rowOf, rowsOf, words, tableOf}
+use Rattle.packet.specs.Rows.{RowWords, meaningOf, kindOf, codeOf, rowOf, rowsOf, words, tableOf}
 use Rattle.packet.specs.declared.Header.{Header}
 use Rattle.reader.specs.code.Filling.{putRow}
 
@@ -32,7 +32,7 @@ clear-none t k e h =
     rw none
 
 -- the four stores of a row
-pub row-stored : (t : List ℕ) (n : ℕ) (r : Row)
+pub row-stored : (t : List ℕ) (n : ℕ) (r : RowWords)
     → set (set (set (set t (4 * n) (r .tag)) (4 * n + 1) (r .kind)) (4 * n + 2) (r .code)) (4 * n + 3) (r .part) ≡ putRow t n r
 row-stored t n r =
     let w : ℕ = 4 * n in

@@ -15,8 +15,8 @@ use Rattle.catalogue.specs.declared.Item.{Item}
 use Rattle.catalogue.specs.declared.Shape.{Shape}
 use Rattle.catalogue.specs.declared.Shape.the-variants as shape
 use Rattle.catalogue.proofs.Columns.{number-width}
-use Rattle.rows.specs.Meaning.{Row}
-use Rattle.rows.specs.declared.Row.{Row as Record}
+use Rattle.rows.specs.declared.RowWords.{RowWords}
+use Rattle.rows.specs.declared.Row.{Row}
 use Rattle.rows.specs.declared.Content.{Content}
 use Rattle.records.specs.Images.{widthBy, widthOf, saysFor, rowSaying, imageOf, none, putImage, imagesInto, fitting, imageTable}
 
@@ -40,12 +40,12 @@ width-by t shape.Absent e = omega arith
 pub width-small : (t : ℕ) → widthOf t ≤ 8
 width-small t = width-by t (shapeOf t) refl
 
-pub image-by : (r : Record) (c : Content) → r .content ≡ c → rowSaying (r .tag) (saysFor (r .tag) c) ≡ imageOf r
+pub image-by : (r : Row) (c : Content) → r .content ≡ c → rowSaying (r .tag) (saysFor (r .tag) c) ≡ imageOf r
 unfolding imageOf
 image-by r c e = ap (λ x. rowSaying (r .tag) (saysFor (r .tag) x)) (sym e)
 
 -- the four stores, one after the other
-pub puts : (t : List ℕ) (n : ℕ) (r s : Row) → r ≡ s → set (set (set (set t (4 * n) (r .tag)) (4 * n + 1) (r .kind)) (4 * n + 2) (r .code)) (4 * n + 3)
+pub puts : (t : List ℕ) (n : ℕ) (r s : RowWords) → r ≡ s → set (set (set (set t (4 * n) (r .tag)) (4 * n + 1) (r .kind)) (4 * n + 2) (r .code)) (4 * n + 3)
     (r .part) ≡ putImage t n s
 puts t n r s e =
     let one : 4 * n + 1 ≡ suc (4 * n) = omega arith in
@@ -54,14 +54,14 @@ puts t n r s e =
     rw (e, one, two, three)
 
 -- the table before the first record, and with one record more
-pub images-none : (rs : List Record) (t : List ℕ) → t ≡ imagesInto 0 rs t
+pub images-none : (rs : List Row) (t : List ℕ) → t ≡ imagesInto 0 rs t
 unfolding imagesInto
 images-none rs t = refl
 
-pub images-more : (n : ℕ) (rs : List Record) (t : List ℕ) → putImage (imagesInto n rs t) n (imageOf (getD rs n none)) ≡ imagesInto (suc n) rs t
+pub images-more : (n : ℕ) (rs : List Row) (t : List ℕ) → putImage (imagesInto n rs t) n (imageOf (getD rs n none)) ≡ imagesInto (suc n) rs t
 unfolding imagesInto
 images-more n rs t = refl
 
-pub table-is : (rs : List Record) → imagesInto (fitting (length rs)) rs (replicate 512 0) ≡ imageTable rs
+pub table-is : (rs : List Row) → imagesInto (fitting (length rs)) rs (replicate 512 0) ≡ imageTable rs
 unfolding imageTable
 table-is rs = refl

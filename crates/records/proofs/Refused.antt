@@ -15,10 +15,11 @@ use Rattle.tagset.specs.declared.TagSet.{TagSet}
 use Rattle.knowing.specs.Good.{good}
 use Rattle.catalogue.specs.declared.Shape.{Shape}
 use Rattle.catalogue.specs.declared.Shape.the-variants.{Text, Number, Absent}
-use Rattle.rows.specs.Meaning.{Meaning, Row, shapeFor, kindFor, markCode, readingKind, markKind}
+use Rattle.rows.specs.Meaning.{Meaning, shapeFor, kindFor, markCode, readingKind, markKind}
+use Rattle.rows.specs.declared.RowWords.{RowWords}
 use Rattle.rows.specs.Taken.{tagGood, rowGood, tagShown, rowAt, GoodRow}
 use Rattle.rows.specs.declared.Part.{Part}
-use Rattle.rows.specs.declared.Row.{Row as Record}
+use Rattle.rows.specs.declared.Row.{Row}
 use Rattle.packet.specs.Judge.{Knowing}
 use Rattle.packet.specs.Rows.{rowsIn}
 use Rattle.outgoing.specs.Outgoing.{rightRows, outgoing}
@@ -27,7 +28,7 @@ use Rattle.records.specs.Images.{saysFor, partIn, holdable, noKind, rowS
 use Rattle.records.proofs.Same.{table-at, count-fits}
 
 -- "a list of over 128 records gets 16"
-pub too-many : (K : TagSet) (rs : List Record) (b : List ℕ) (room : ℕ) → good K ≡ true → 128 < length rs
+pub too-many : (K : TagSet) (rs : List Row) (b : List ℕ) (room : ℕ) → good K ≡ true → 128 < length rs
     → written K (length rs) (imageTable rs) b room ≡ refused 16 0 0
 unfolding written outgoing
 too-many K rs b room s h = rw (s, lt-leb _ _ h)
@@ -69,11 +70,11 @@ module _ (K : Knowing) (b : List ℕ) where
       (λ other. rw (g k (omega arith) (omega (arith, l, other)))
       (first-bad-row (suc k) n t j (omega (arith, l, other)) (omega (arith, m)) (λ i o. g i (omega (arith, o))) f))
 
-image-tag : (r : Record) → imageOf r .tag ≡ r .tag
+image-tag : (r : Row) → imageOf r .tag ≡ r .tag
 unfolding imageOf
 image-tag r = byBool (holdable (partIn (saysFor (r .tag) (r .content)))) (λ e. rw e) (λ e. rw e)
 
-module _ (K : TagSet) (rs : List Record) (b : List ℕ) (room k : ℕ) (right : good K ≡ true) (few : length rs ≤ 128) (one : k < length rs)
+module _ (K : TagSet) (rs : List Row) (b : List ℕ) (room k : ℕ) (right : good K ≡ true) (few : length rs ≤ 128) (one : k < length rs)
     (earlier : (j : ℕ) → j < k → GoodRow (holds K) b (imageOf (getD rs j none))) where
   -- of up to 128 records, the first whose image is bad
   pub first-bad : rowGood (shapeFor (holds K) (imageOf (getD rs k none) .tag)) (length b) (imageOf (getD rs k none)) ≡ false
@@ -81,7 +82,7 @@ module _ (K : TagSet) (rs : List Record) (b : List ℕ) (room k : ℕ) (right : 
   unfolding written outgoing
   first-bad f =
       let at : (j : ℕ) → j ≤ k → rowAt (imageTable rs) j ≡ imageOf (getD rs j none) = λ j l. table-at rs few j (omega (arith, l, one)) in
-      let tag : rowAt (imageTable rs) k .tag ≡ getD rs k none .tag = ap (λ (x : Row). x .tag) (at k (omega arith)) ∙ image-tag (getD rs k none) in
+      let tag : rowAt (imageTable rs) k .tag ≡ getD rs k none .tag = ap (λ (x : RowWords). x .tag) (at k (omega arith)) ∙ image-tag (getD rs k none) in
       let before : (j : ℕ) → 0 ≤ j → j < k → GoodRow (holds K) b (rowAt (imageTable rs) j) = λ j _ l. rw (at j (omega (arith, l))) (earlier j l) in
       let bad : rowGood (shapeFor (holds K) (rowAt (imageTable rs) k .tag)) (length b) (rowAt (imageTable rs) k) ≡ false = rw (at k (omega arith)) f in
       rw (right, count-fits rs few, first-bad-row (holds K) b 0 (length rs) (imageTable rs) k (omega arith) (omega (arith, one)) before bad, tag)

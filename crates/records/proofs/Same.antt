@@ -21,9 +21,10 @@ use Rattle.knowing.specs.Good.{good}
 use Rattle.catalogue.specs.Shapes.{shapeOf}
 use Rattle.catalogue.specs.declared.Shape.{Shape}
 use Rattle.catalogue.specs.declared.Shape.the-variants.{Text, Number, Absent}
-use Rattle.rows.specs.Meaning.{Row, shapeFor, kindFor, markCode, readingKind, markKind, textKind, carriedKind, saidBy}
+use Rattle.rows.specs.Meaning.{shapeFor, kindFor, markCode, readingKind, markKind, textKind, carriedKind, saidBy}
+use Rattle.rows.specs.declared.RowWords.{RowWords}
 use Rattle.rows.specs.Taken.{partLength, tagGood, codeGood, contentGood, rowGood, countGood, tagShown, rowAt, partOf, contentOf, rowTakenAt, GoodRow}
-use Rattle.rows.specs.declared.Row.{Row as Record}
+use Rattle.rows.specs.declared.Row.{Row}
 use Rattle.rows.specs.declared.Part.{Part}
 use Rattle.packet.specs.Judge.{Knowing}
 use Rattle.packet.specs.Rows.{rowsIn, pieceOf, piecesOf}
@@ -37,7 +38,7 @@ use Rattle.records.specs.TakenOut.{Words, TakenOut, taken, takenFrom}
 use Rattle.records.proofs.Laws.{width-small}
 
 -- a row with another fourth word
-abbrev withPart : Row → ℕ → Row
+abbrev withPart : RowWords → ℕ → RowWords
 withPart r word = record { tag = r .tag; kind = r .kind; code = r .code; part = word }
 
 known-shape : (K : Knowing) (t width : ℕ) (marked : Bool) → shapeFor K t ≡ Number width marked → widthOf t ≡ width
@@ -48,13 +49,13 @@ known-shape K t width marked e =
     (λ k. let f : Absent ≡ Number width marked = rw k at e in never (cc))
 
 words-of : {t t′ k k′ c c′ s s′ : ℕ} → t ≡ t′ → k ≡ k′ → c ≡ c′ → s ≡ s′
-    → _≡_ {A = Row} (record { tag = t; kind = k; code = c; part = s }) (record { tag = t′; kind = k′; code = c′; part = s′ })
+    → _≡_ {A = RowWords} (record { tag = t; kind = k; code = c; part = s }) (record { tag = t′; kind = k′; code = c′; part = s′ })
 words-of o p q h i = record { tag = o i; kind = p i; code = q i; part = h i }
 
 -- ---- the image of a row that is not bad
-module _ (r : Row) where
+module _ (r : RowWords) where
   -- by what its kind says
-  abbrev said : ℕ → Row
+  abbrev said : ℕ → RowWords
   said kind = rowSaying (r .tag) (saysFor (r .tag) (contentOf (saidBy kind (r .code) (partLength (r .part)) (partOf (r .part)))))
 
   image-said : (kind : ℕ) → r .kind ≡ kind → imageOf (taken r) ≡ said kind
@@ -91,12 +92,12 @@ module _ (r : Row) where
       ∙ (e ∙ row-is kind 0 (partOf (r .part)) (r .part) (sym k) (sym c) (omega (arith, h)) (omega arith) (div-add-mod' (r .part) 65536))
 
 -- what it is not to be bad, part by part
-record Fine (s : Shape) (room : ℕ) (r : Row) : Type 0 where
+record Fine (s : Shape) (room : ℕ) (r : RowWords) : Type 0 where
   tagged : tagGood (r .tag) ≡ true
   kind : r .kind ≡ kindFor s (r .code)
   content : contentGood s room r ≡ true
 
-fine : (s : Shape) (room : ℕ) (r : Row) → rowGood s room r ≡ true → Fine s room r
+fine : (s : Shape) (room : ℕ) (r : RowWords) → rowGood s room r ≡ true → Fine s room r
 unfolding rowGood
 fine s room r e =
     let e′ = both-right (tagGood (r .tag)) _ e in
@@ -106,16 +107,16 @@ fine s room r e =
       content = both-right (eqb (r .kind) (kindFor s (r .code))) _ e′;
     }
 
-fine-good : (s : Shape) (room : ℕ) (r : Row) → Fine s room r → rowGood s room r ≡ true
+fine-good : (s : Shape) (room : ℕ) (r : RowWords) → Fine s room r → rowGood s room r ≡ true
 unfolding rowGood
 fine-good s room r f = both-true _ _ (f .tagged) (both-true _ _ (eq-eqb _ _ (f .kind)) (f .content))
 
 -- an image that is not bad either, and stands for the same piece
-record Alike (K : Knowing) (b : List ℕ) (r s : Row) : Type 0 where
+record Alike (K : Knowing) (b : List ℕ) (r s : RowWords) : Type 0 where
   kept : GoodRow K b s
   piece : pieceOf K b s ≡ pieceOf K b r
 
-module _ (K : Knowing) (b : List ℕ) (r : Row) where
+module _ (K : Knowing) (b : List ℕ) (r : RowWords) where
   number-alike : (width : ℕ) (marked : Bool) → shapeFor K (r .tag) ≡ Number width marked → width ≤ 8 → Fine (Number width marked) (length b) r
       → Alike K b r (withPart r width)
   unfolding pieceOf
@@ -129,7 +130,7 @@ module _ (K : Knowing) (b : List ℕ) (r : Row) where
       } in
       record { kept = rw f (fine-good (Number width marked) (length b) (withPart r width) g′); piece = rw f }
 
-  same-alike : (s : Row) → s ≡ r → GoodRow K b r → Alike K b r s
+  same-alike : (s : RowWords) → s ≡ r → GoodRow K b r → Alike K b r s
   same-alike s e g = record { kept = rw e g; piece = ap (pieceOf K b) e }
 
   alike : r .part < 2 ^ 64 → GoodRow K b r → Alike K b r (imageOf (taken r))
@@ -144,7 +145,7 @@ module _ (K : Knowing) (b : List ℕ) (r : Row) where
       go Absent f p = same-alike _ (part-image r carriedKind refl h (p .kind) (eqb-true _ _ (both-left (eqb (r .code) 0) _ (p .content)))) g
 
 -- ---- the table's rows are the images
-length-images : (n : ℕ) (rs : List Record) (t : List ℕ) → length (imagesInto n rs t) ≡ length t
+length-images : (n : ℕ) (rs : List Row) (t : List ℕ) → length (imagesInto n rs t) ≡ length t
 unfolding imagesInto
 length-images zero rs t = refl
 length-images (suc n) rs t =
@@ -166,7 +167,7 @@ stored-at (v ∷ vs) l i (suc k) h m =
     let e : i + suc k ≡ suc i + k = omega arith in
     rw e (stored-at vs (set l i v) (suc i) k (omega (arith, h)) (rw (length-set l i v) (omega (arith, m))))
 
-module _ (t : List ℕ) (n : ℕ) (r : Row) where
+module _ (t : List ℕ) (n : ℕ) (r : RowWords) where
   abbrev four : List ℕ
   four = r .tag ∷ r .kind ∷ r .code ∷ r .part ∷ []
 
@@ -187,7 +188,7 @@ module _ (t : List ℕ) (n : ℕ) (r : Row) where
       is : (k : ℕ) → k < 4 → getD (putImage t n r) (4 * n + k) 0 ≡ getD four k 0
       is k l = stored-at four t (4 * n) k l h
 
-image-at : (n : ℕ) (rs : List Record) (t : List ℕ) → 4 * n ≤ length t → (k : ℕ) → k < n → rowAt (imagesInto n rs t) k ≡ imageOf (getD rs k none)
+image-at : (n : ℕ) (rs : List Row) (t : List ℕ) → 4 * n ≤ length t → (k : ℕ) → k < n → rowAt (imagesInto n rs t) k ≡ imageOf (getD rs k none)
 unfolding imagesInto
 image-at zero rs t h k l = absurd (omega (arith, l))
 image-at (suc n) rs t h k l =
@@ -199,26 +200,26 @@ image-at (suc n) rs t h k l =
 fitting-all : (n : ℕ) → n ≤ 128 → fitting n ≡ n
 fitting-all n h = byLt n 128 (λ l. rw (lt-ltb n 128 l)) (λ l. rw (le-ltb n 128 l) (omega (arith, h, l)))
 
-length-table : (rs : List Record) → length (imageTable rs) ≡ 512
+length-table : (rs : List Row) → length (imageTable rs) ≡ 512
 unfolding imageTable
 length-table rs = length-images (fitting (length rs)) rs (replicate 512 0)
 
-pub count-fits : (rs : List Record) → length rs ≤ 128 → countGood (length rs) (length (imageTable rs)) ≡ true
+pub count-fits : (rs : List Row) → length rs ≤ 128 → countGood (length rs) (length (imageTable rs)) ≡ true
 count-fits rs h = both-true _ _ (le-leb _ _ h) (le-leb (4 * length rs) (length (imageTable rs)) (rw (length-table rs) (omega (arith, h))))
 
-pub table-at : (rs : List Record) → length rs ≤ 128 → (k : ℕ) → k < length rs → rowAt (imageTable rs) k ≡ imageOf (getD rs k none)
+pub table-at : (rs : List Row) → length rs ≤ 128 → (k : ℕ) → k < length rs → rowAt (imageTable rs) k ≡ imageOf (getD rs k none)
 unfolding imageTable
 table-at rs h k l =
     let all = fitting-all (length rs) h in
     image-at (fitting (length rs)) rs (replicate 512 0) (rw all (omega (arith, h))) k (rw all l)
 
 -- ---- what a row taken out says
-record Took (K : TagSet) (room n k : ℕ) (w : List ℕ) (x : Record) : Type 0 where
+record Took (K : TagSet) (room n k : ℕ) (w : List ℕ) (x : Row) : Type 0 where
   counted : countGood n (length w) ≡ true
   kept : rowGood (shapeFor (holds K) (rowAt w k .tag)) room (rowAt w k) ≡ true
   is : taken (rowAt w k) ≡ x
 
-took : (K : TagSet) (room n k : ℕ) (w : List ℕ) (x : Record) → rowTakenAt K room n k w ≡ given x → Took K room n k w x
+took : (K : TagSet) (room n k : ℕ) (w : List ℕ) (x : Row) → rowTakenAt K room n k w ≡ given x → Took K room n k w x
 unfolding rowTakenAt
 took K room n k w x e =
     let s = passed (good K) _ 1 0 0 e in
@@ -250,7 +251,7 @@ written-alike : (K : TagSet) (n : ℕ) (t u b o o′ : List ℕ) (z : Writing) �
 unfolding writeAnswer writeOutput
 written-alike K n t u b o o′ z s e = record { answer = e .answer ∙ ap (map writtenBy) s; output = e .output ∙ ap (outputBy o) s }
 
-module _ (K : TagSet) (w b : List ℕ) (rs : List Record) (h : Words w) (p : TakenOut K (length b) w rs) where
+module _ (K : TagSet) (w b : List ℕ) (rs : List Row) (h : Words w) (p : TakenOut K (length b) w rs) where
   all-took : (k : ℕ) → k < length rs → Took K (length b) (length rs) k w (getD rs k none)
   all-took k l = took K (length b) (length rs) k w (getD rs k none) (p .row k l)
 

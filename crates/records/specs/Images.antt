@@ -8,11 +8,12 @@ use lib.Seq.{sets}
 use Rattle.catalogue.specs.Shapes.{shapeOf}
 use Rattle.catalogue.specs.declared.Shape.{Shape}
 use Rattle.catalogue.specs.declared.Shape.the-variants.{Text, Number, Absent}
-use Rattle.rows.specs.Meaning.{Meaning, reading, mark, text, carried, Row, markCode, kindOf, codeOf}
+use Rattle.rows.specs.Meaning.{Meaning, reading, mark, text, carried, markCode, kindOf, codeOf}
+use Rattle.rows.specs.declared.RowWords.{RowWords}
 use Rattle.rows.specs.declared.Part.{Part}
 use Rattle.rows.specs.declared.Content.{Content}
 use Rattle.rows.specs.declared.Content.the-variants as content
-use Rattle.rows.specs.declared.Row.{Row as Record}
+use Rattle.rows.specs.declared.Row.{Row}
 
 -- the catalogue's length for a tag, 0 where a tag has none
 abbrev pub widthBy : Shape → ℕ
@@ -45,28 +46,28 @@ holdable part = ltb (part .place) (2 ^ 48) && ltb (part .length) 65536
 abbrev pub noKind : ℕ
 noKind = 0
 
-abbrev pub rowWith : ℕ → ℕ → ℕ → Part → Row
+abbrev pub rowWith : ℕ → ℕ → ℕ → Part → RowWords
 rowWith tag kind code part =
     cond (holdable part)
     (record { tag = tag; kind = kind; code = code; part = part .place * 65536 + part .length })
     (record { tag = tag; kind = noKind; code = 0; part = 0 })
 
 -- the row of what is said of an item
-abbrev pub rowSaying : ℕ → Meaning Part → Row
+abbrev pub rowSaying : ℕ → Meaning Part → RowWords
 rowSaying tag m = rowWith tag (kindOf m) (codeOf m) (partIn m)
 
-unfoldable pub imageOf : Record → Row
+unfoldable pub imageOf : Row → RowWords
 imageOf r = rowSaying (r .tag) (saysFor (r .tag) (r .content))
 
 -- what stands past the end of a list of records
-abbrev pub none : Record
+abbrev pub none : Row
 none = record { tag = 0; content = content.Mark }
 
 -- the table t with the images of the records 0 to n - 1 put in, row after row
-abbrev pub putImage : List ℕ → ℕ → Row → List ℕ
+abbrev pub putImage : List ℕ → ℕ → RowWords → List ℕ
 putImage t n r = sets t (4 * n) (r .tag ∷ r .kind ∷ r .code ∷ r .part ∷ [])
 
-unfoldable pub imagesInto : ℕ → List Record → List ℕ → List ℕ
+unfoldable pub imagesInto : ℕ → List Row → List ℕ → List ℕ
 imagesInto zero rs t = t
 imagesInto (suc n) rs t = putImage (imagesInto n rs t) n (imageOf (getD rs n none))
 
@@ -74,5 +75,5 @@ imagesInto (suc n) rs t = putImage (imagesInto n rs t) n (imageOf (getD rs n non
 abbrev pub fitting : ℕ → ℕ
 fitting n = cond (ltb n 128) n 128
 
-unfoldable pub imageTable : List Record → List ℕ
+unfoldable pub imageTable : List Row → List ℕ
 imageTable rs = imagesInto (fitting (length rs)) rs (replicate 512 0)

@@ -9,10 +9,6 @@ use Rattle.number.specs.Stored.{valueOf}
 use Rattle.catalogue.specs.Shapes.{shapeOf}
 use Rattle.catalogue.specs.declared.Shape.{Shape}
 use Rattle.catalogue.specs.declared.Shape.the-variants.{Text, Number, Absent}
-use Rattle.rows.specs.declared.RowWords.{RowWords}
-
-abbrev pub Row : Type 0
-Row = RowWords
 
 -- a number is its code and its length; of text and carried bytes A says what they are, or where they stand
 pub data Meaning (A : Type 0) : Type 0 where

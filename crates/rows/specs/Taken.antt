@@ -11,11 +11,12 @@ use Rattle.tagset.specs.declared.TagSet.{TagSet}
 use Rattle.knowing.specs.Good.{good}
 use Rattle.catalogue.specs.declared.Shape.{Shape}
 use Rattle.catalogue.specs.declared.Shape.the-variants.{Text, Number, Absent}
-use Rattle.rows.specs.Meaning.{Meaning, reading, mark, text, carried, Row, shapeFor, kindFor, saidBy}
+use Rattle.rows.specs.Meaning.{Meaning, reading, mark, text, carried, shapeFor, kindFor, saidBy}
+use Rattle.rows.specs.declared.RowWords.{RowWords}
 use Rattle.rows.specs.declared.Content.{Content}
 use Rattle.rows.specs.declared.Content.the-variants as content
 use Rattle.rows.specs.declared.Part.{Part}
-use Rattle.rows.specs.declared.Row.{Row as SingleRow}
+use Rattle.rows.specs.declared.Row.{Row}
 use Rattle.rows.specs.declared.Taken.{Taken}
 use Rattle.rows.specs.declared.Taken.the-variants.{Is, Refused}
 
@@ -31,7 +32,7 @@ abbrev pub partOf : ℕ → Part
 partOf part = record { place = partPlace part; length = partLength part }
 
 -- what a row says that its item holds
-abbrev pub rowSays : Row → Meaning Part
+abbrev pub rowSays : RowWords → Meaning Part
 rowSays r = saidBy (r .kind) (r .code) (partLength (r .part)) (partOf (r .part))
 
 -- "its tag is not 1 to 2,097,151"
@@ -46,17 +47,17 @@ partGood room code part = eqb code 0 && leb (partPlace part + partLength part) r
 abbrev pub codeGood : ℕ → ℕ → ℕ → Bool
 codeGood tag width code = eqb tag 1 || ltb code (2 ^ (8 * width))
 
-abbrev pub contentGood : Shape → ℕ → Row → Bool
+abbrev pub contentGood : Shape → ℕ → RowWords → Bool
 contentGood (Number width marked) room r = eqb (partLength (r .part)) width && codeGood (r .tag) width (r .code)
 contentGood Text room r = partGood room (r .code) (r .part)
 contentGood Absent room r = partGood room (r .code) (r .part)
 
 -- a row that is not bad, for a receiver and a buffer of so many bytes: its kind is the one that this receiver gives the tag and the code
-unfoldable pub rowGood : Shape → ℕ → Row → Bool
+unfoldable pub rowGood : Shape → ℕ → RowWords → Bool
 rowGood shape room r = tagGood (r .tag) && (eqb (r .kind) (kindFor shape (r .code)) && contentGood shape room r)
 
 -- the same of a receiver and a buffer
-abbrev pub GoodRow : (ℕ → Bool) → List ℕ → Row → Type 0
+abbrev pub GoodRow : (ℕ → Bool) → List ℕ → RowWords → Type 0
 GoodRow K b r = rowGood (shapeFor K (r .tag)) (length b) r ≡ true
 
 -- the tag that goes with 17: "its tag if 1 to 2,097,151, else 0"
@@ -68,7 +69,7 @@ abbrev pub countGood : ℕ → ℕ → Bool
 countGood count lent = leb count 128 && leb (4 * count) lent
 
 -- the words of a row
-unfoldable pub rowAt : List ℕ → ℕ → Row
+unfoldable pub rowAt : List ℕ → ℕ → RowWords
 rowAt words n =
     record {
       tag = getD words (4 * n) 0;
@@ -84,12 +85,12 @@ contentOf (mark code size) = content.Mark
 contentOf (text part) = content.Text part
 contentOf (carried part) = content.Carried part
 
-abbrev pub rowTaken : Shape → ℕ → ℕ → Row → Answer SingleRow
+abbrev pub rowTaken : Shape → ℕ → ℕ → RowWords → Answer Row
 rowTaken shape room n r =
     cond (rowGood shape room r) (given (record { tag = r .tag; content = contentOf (rowSays r) })) (refused 17 n (tagShown (r .tag)))
 
 -- the row numbered n of count rows: 1, 16, 17, or the row
-unfoldable pub rowTakenAt : TagSet → ℕ → ℕ → ℕ → List ℕ → Answer SingleRow
+unfoldable pub rowTakenAt : TagSet → ℕ → ℕ → ℕ → List ℕ → Answer Row
 rowTakenAt K room count n words =
     cond (good K)
     (cond (countGood count (length words))
@@ -97,6 +98,6 @@ rowTakenAt K room count n words =
     (refused 16 0 0))
     (refused 1 0 0)
 
-abbrev pub takenSaid : Taken → Answer SingleRow
+abbrev pub takenSaid : Taken → Answer Row
 takenSaid (Is r) = given r
 takenSaid (Refused r) = refusal r

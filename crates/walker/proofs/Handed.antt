@@ -24,10 +24,11 @@ use Rattle.knowing.specs.Good.{good}
 use Rattle.catalogue.proofs.Columns.{number-width as width-at-most}
 use Rattle.catalogue.specs.declared.Shape.{Shape}
 use Rattle.catalogue.specs.declared.Shape.the-variants.{Text, Number, Absent}
-use Rattle.rows.specs.Meaning.{Row, shapeFor, markCode}
+use Rattle.rows.specs.Meaning.{shapeFor, markCode}
+use Rattle.rows.specs.declared.RowWords.{RowWords}
 use Rattle.rows.specs.Taken.{partOf, rowSays, contentOf}
 use Rattle.rows.specs.declared.Content.the-variants as content
-use Rattle.rows.specs.declared.Row.{Row as SingleRow}
+use Rattle.rows.specs.declared.Row.{Row}
 use Rattle.packet.specs.Pieces.{Item, pieces, walk, before, readItem}
 use Rattle.packet.specs.Said.{headerAt}
 use Rattle.packet.specs.code.Headers.{itemBy}
@@ -45,7 +46,7 @@ use Rattle.walker.specs.declared.Found.the-variants as found
 
 -- an item as it is handed out
 pub record Handed : Type 0 where
-  pub row : SingleRow
+  pub row : Row
   pub value : List ℕ
 
 abbrev pub onFound : Found → List ℕ → List Handed → List Handed
@@ -58,10 +59,10 @@ handed zero K p at = []
 handed (suc n) K p at = onFound (foundAt K p at) (partAt p at) (handed n K p (nextAt p at))
 
 -- a row of the reader's, taken out singly, with the bytes at its place
-abbrev pub handedRow : TagSet → List ℕ → Row → Handed
+abbrev pub handedRow : TagSet → List ℕ → RowWords → Handed
 handedRow K p r = record { row = record { tag = r .tag; content = contentOf (rowSays r) }; value = bytesAt p r }
 
-unfoldable pub handedRows : TagSet → List ℕ → List Row → List Handed
+unfoldable pub handedRows : TagSet → List ℕ → List RowWords → List Handed
 handedRows K p [] = []
 handedRows K p (r ∷ rs) = handedRow K p r ∷ handedRows K p rs
 

@@ -13,7 +13,8 @@ use Rattle.scale.specs.declared.House.{House}
 use Rattle.scale.specs.declared.Code.{Code}
 use Rattle.packet.specs.Structure.{key, same}
 use Rattle.packet.specs.Rows.{words, readAnswer, readTable}
-use Rattle.rows.specs.Meaning.{Row, readingKind}
+use Rattle.rows.specs.Meaning.{readingKind}
+use Rattle.rows.specs.declared.RowWords.{RowWords}
 use Rattle.rows.specs.declared.Filled.{Filled}
 
 abbrev pub sameRead : Read → Read → Bool
@@ -55,11 +56,11 @@ abbrev pub lent : List ℕ
 lent = replicate 513 7
 
 -- what a table holds after these rows: zeros up to word 512, and the word beyond as it was
-abbrev pub tableWith : List Row → List ℕ
+abbrev pub tableWith : List RowWords → List ℕ
 tableWith rows = words rows ++ (replicate (512 - 4 * length rows) 0 ++ (7 ∷ []))
 
 -- a number's row, by the place of its value
-abbrev pub numberRow : ℕ → ℕ → ℕ → ℕ → Row
+abbrev pub numberRow : ℕ → ℕ → ℕ → ℕ → RowWords
 numberRow place size tag code = record { tag = tag; kind = readingKind; code = code; part = place * 65536 + size }
 
 pub data Case : Type 0 where
@@ -69,7 +70,7 @@ pub data Case : Type 0 where
   houseCase : ℕ → ℕ → Answer House → Case
   codeCase : ℕ → ℤ → Answer Code → Case
   -- a packet and the rows that a receiver of the whole catalogue reads
-  packetCase : List ℕ → List Row → Case
+  packetCase : List ℕ → List RowWords → Case
 
 abbrev pub right : Case → Bool
 right (lengthCase bytes found) = sameRead (readLength bytes) found

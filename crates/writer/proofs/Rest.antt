@@ -9,7 +9,8 @@ use lib.ListN.{length}
 use Rattle.base.specs.Every.{Each}
 use Rattle.base.specs.Putting.{putInto, Room, Wrote}
 use Rattle.base.proofs.Putting.{to-write, wrote-nothing}
-use Rattle.rows.specs.Meaning.{Row, shapeFor}
+use Rattle.rows.specs.Meaning.{shapeFor}
+use Rattle.rows.specs.declared.RowWords.{RowWords}
 use Rattle.catalogue.specs.declared.Shape.{Shape}
 use Rattle.rows.specs.Taken.{rowAt, rowGood, GoodRow}
 use Rattle.packet.specs.Judge.{Knowing}
@@ -20,7 +21,7 @@ use Rattle.writer.specs.code.Putting.{rowBytes, tableBytes}
 use Rattle.writer.proofs.Pieces.{piece-room, piece-put}
 
 -- rows are left: put at a place, they make the output x and end at a place
-pub record Left (K : Knowing) (b : List ℕ) (rs : List Row) (o : List ℕ) (at end : ℕ) (x : List ℕ) : Type 0 where
+pub record Left (K : Knowing) (b : List ℕ) (rs : List RowWords) (o : List ℕ) (at end : ℕ) (x : List ℕ) : Type 0 where
   pub good : Each (GoodRow K b) rs
   pub rest : Wrote o at (itemsBytes (piecesOf K b rs)) end x
 
@@ -34,7 +35,7 @@ module _ {K : Knowing} {b : List ℕ} (words : List ℕ) (count : ℕ) where
     unfolding piecesOf itemsBytes
     table-done h = let d : Left K b [] o at end x = rw (rows-none words n count h) at l in wrote-nothing (d .rest)
 
-    module _ (h : n < count) {r : Row} {s : Shape} (e : r ≡ rowAt words n) (f : s ≡ shapeFor K (r .tag)) where
+    module _ (h : n < count) {r : RowWords} {s : Shape} (e : r ≡ rowAt words n) (f : s ≡ shapeFor K (r .tag)) where
       this : Left K b (r ∷ rowsIn (n + 1) (count - (n + 1)) words) o at end x
       this = rw e (rw (rows-from words n count h) at l)
 

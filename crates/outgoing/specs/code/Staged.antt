@@ -9,7 +9,7 @@ use Rattle.refusal.specs.Answer.{Answer, given, refused, then}
 use Rattle.ber.specs.Written.{tagBytes, lengthBytes}
 use Rattle.tagset.specs.Sets.{holds, withTag}
 use Rattle.tagset.specs.declared.TagSet.{TagSet}
-use Rattle.rows.specs.Meaning.{Row}
+use Rattle.rows.specs.declared.RowWords.{RowWords}
 use Rattle.rows.specs.Taken.{partLength, rowAt}
 use Rattle.packet.specs.Judge.{Fault, clean, wrong, faultBy, looked}
 use Rattle.packet.specs.Ends.{rightEnds}
@@ -19,10 +19,10 @@ use Rattle.outgoing.specs.Outgoing.{rightSize}
 use Rattle.outgoing.specs.declared.Packed.{Packed}
 
 -- how many bytes a row's item has: tag, length in its shortest form, value
-abbrev pub rowSize : Row → ℕ
+abbrev pub rowSize : RowWords → ℕ
 rowSize r = length (tagBytes (r .tag)) + length (lengthBytes (partLength (r .part))) + partLength (r .part)
 
-unfoldable pub rowsSize : List Row → ℕ
+unfoldable pub rowsSize : List RowWords → ℕ
 rowsSize [] = 0
 rowsSize (r ∷ rs) = rowSize r + rowsSize rs
 
@@ -31,7 +31,7 @@ abbrev pub packedBy : ℕ → Packed
 packedBy items = record { size = 16 + length (lengthBytes items) + items; items = items }
 
 -- what is wrong with a row for a receiver, by the tags seen
-unfoldable pub rowFault : TagSet → TagSet → Row → Fault
+unfoldable pub rowFault : TagSet → TagSet → RowWords → Fault
 rowFault K seen r = cond (holds K (r .tag)) (faultBy (looked (r .tag) (partLength (r .part)) (r .code) (holds seen (r .tag)))) clean
 
 abbrev pub unlessFaulty : Fault → ℕ → ℕ → Answer (Unit {0}) → Answer (Unit {0})
@@ -42,7 +42,7 @@ abbrev pub noTags : TagSet
 noTags = record { low = 0; high = 0 }
 
 -- 12 to 15, for rows numbered from k on
-unfoldable pub rowsJudged : TagSet → TagSet → ℕ → List Row → Answer (Unit {0})
+unfoldable pub rowsJudged : TagSet → TagSet → ℕ → List RowWords → Answer (Unit {0})
 rowsJudged K seen k [] = cond (holds seen 65) (given tt) (refused 15 0 0)
 rowsJudged K seen k (r ∷ rs) = unlessFaulty (rowFault K seen r) k (r .tag) (rowsJudged K (withTag seen (r .tag)) (k + 1) rs)
 

@@ -10,10 +10,10 @@ use Rattle.catalogue.specs.declared.Shape.the-variants.{Text, Number, Absent}
 use Rattle.packet.specs.Pieces.{Item}
 use Rattle.packet.specs.Structure.{ItemsFrom}
 use Rattle.packet.specs.Verdict.{received}
-use Rattle.packet.specs.Rows.{Row}
+use Rattle.packet.specs.Rows.{RowWords}
 
 -- a row's words put at its place
-abbrev pub putRow : List ℕ → ℕ → Row → List ℕ
+abbrev pub putRow : List ℕ → ℕ → RowWords → List ℕ
 putRow t n r = sets t (4 * n) (r .tag ∷ r .kind ∷ r .code ∷ r .part ∷ [])
 
 -- a number of at most eight bytes; text and carried bytes are not read as numbers

@@ -6,7 +6,7 @@ use mathlib.Core.List.{List}
 use lib.ListN.{length}
 use Rattle.base.specs.Every.{Each}
 use Rattle.catalogue.specs.declared.Shape.{Shape}
-use Rattle.rows.specs.Meaning.{Row}
+use Rattle.rows.specs.declared.RowWords.{RowWords}
 use Rattle.rows.specs.Taken.{GoodRow}
 use Rattle.packet.specs.Pieces.{Piece}
 use Rattle.packet.specs.Judge.{Knowing}
@@ -14,7 +14,7 @@ use Rattle.packet.specs.Encode.{itemBytes, itemsBytes, encode}
 use Rattle.packet.specs.Rows.{rowValue, rowsIn, piecesOf}
 
 -- a row's item, its tag having a shape
-abbrev pub rowBytes : Shape → List ℕ → Row → List ℕ
+abbrev pub rowBytes : Shape → List ℕ → RowWords → List ℕ
 rowBytes shape b r = itemBytes (record { tag = r .tag; value = rowValue shape b r })
 
 -- the pieces of count rows in lent words
