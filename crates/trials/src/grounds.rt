@@ -51,20 +51,16 @@ fn located(latitude: i64, longitude: i64) {
     valued(longitude);
 }
 
-fn cornered(answer: Corner) {
-    match answer {
+fn corner(packet: &[u8], known: TagSet, k: u64) {
+    say(STDOUT_FILENO, b"corner");
+    field(STDOUT_FILENO, k);
+    tab();
+    match ground::corner_at(packet, known, k) {
         Corner::At(point) => located(point.latitude, point.longitude),
         Corner::OffTheEarth => off_the_earth(),
         Corner::Missing => missing(),
         Corner::Refused(r) => refused(STDOUT_FILENO, r),
     }
-}
-
-fn corner(packet: &[u8], known: TagSet, k: u64) {
-    say(STDOUT_FILENO, b"corner");
-    field(STDOUT_FILENO, k);
-    tab();
-    cornered(ground::corner_at(packet, known, k));
 }
 
 fn corners(packet: &[u8], known: TagSet) {
@@ -85,11 +81,11 @@ fn walked(packet: &[u8], low: u64, high: u64, steps: u64) {
     }
 }
 
-pub fn run(kind: u8, words: &[u64; 16], packet: &[u8]) {
-    if kind == b'&' {
-        walked(packet, words[0], words[1], words[2]);
-        return;
-    }
+pub fn walk(words: &[u64; 16], packet: &[u8]) {
+    walked(packet, words[0], words[1], words[2]);
+}
+
+pub fn run(words: &[u64; 16], packet: &[u8]) {
     let known = crate::known_of(words);
     heights(packet, known);
     corners(packet, known);

@@ -22,8 +22,14 @@ fn show(field: ber::Field) {
     }
 }
 
-// The first bytes of a room of eight.
-fn put(out: &[u8; 8], n: usize) {
+// The bytes of a tag or of a length: the first of a room of eight.
+fn put(kind: u8, value: u64) {
+    let mut out = [0u8; 8];
+    let n = if kind == b'T' {
+        ber::put_tag(&mut out, 0, value)
+    } else {
+        ber::put_length(&mut out, 0, value)
+    };
     let mut i = 0;
     while i < 8 {
         if i < n {
@@ -32,18 +38,6 @@ fn put(out: &[u8; 8], n: usize) {
         i += 1;
     }
     newline();
-}
-
-fn put_tag(tag: u64) {
-    let mut out = [0u8; 8];
-    let n = ber::put_tag(&mut out, 0, tag);
-    put(&out, n);
-}
-
-fn put_length(x: u64) {
-    let mut out = [0u8; 8];
-    let n = ber::put_length(&mut out, 0, x);
-    put(&out, n);
 }
 
 fn number_of(width: usize, marked: bool) {
@@ -78,8 +72,7 @@ pub fn run(kind: u8, words: &[u64; 16], bytes: &[u8]) {
     match kind {
         b't' => show(ber::tag_at(bytes, first as usize)),
         b'l' => show(ber::length_at(bytes, first as usize)),
-        b'T' => put_tag(first),
-        b'L' => put_length(first),
+        b'T' | b'L' => put(kind, first),
         b's' => line(checksum::checksum(bytes) as u64),
         b'i' => shape(first),
         b'k' => answer(knowing::is_good(crate::known_of(words))),

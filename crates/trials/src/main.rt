@@ -25,7 +25,7 @@
 // w: words of that table. A list of their places.
 // y: a row taken out of that table. The two words of the knowing set, the row count, the row's number, the buffer's bytes.
 // z: a row taken out of a table. The same, with the table's words before the bytes.
-// The input has at most 131,072 bytes, a list of words at most 1,024 entries and one of bytes 8,200.
+// The input has at most 131,072 bytes, a list at most 8,200 entries.
 ghost use mathlib.Core.Path.{_≡_};
 ghost use Prim.Native.Nat.{_<_, _≤_};
 ghost use lib.ListN.{length};
@@ -95,23 +95,20 @@ struct Lent {
     next: usize,
 }
 
-// The words from a place on, as far as there is room, and no more than so many.
+// So many words from a place on, as far as there is room.
 fn words_to(input: &[u8], from: usize, most: u64, words: &mut [u64]) -> Lent
     requires { ⌜ from ≤ length (now input) ⌝ }
     ensures { λ r. ⌜ (r .count ≤ length (now (words .exit))) × (from ≤ r .next) × (r .next ≤ length (now (input .entry))) ⌝ }
 {
-    let mut next = word_start(input, from);
+    let mut next = from;
     let mut i: usize = 0;
     while i < words.len() {
         if most <= i as u64 {
             return Lent { count: i, next };
         }
-        if input.len() <= next {
-            return Lent { count: i, next };
-        }
         let word = token_at(input, next);
         words[i] = word.value;
-        next = word_start(input, word.next);
+        next = word.next;
         i += 1;
     }
     Lent { count: i, next }
@@ -145,17 +142,6 @@ fn wide() -> [u64; 8200]
     [0; 8200]
 }
 
-// The lowest byte of each word.
-fn narrowed(words: &[u64; 8200], bytes: &mut [u8])
-    requires { ⌜ length (now bytes) ≡ 8200 ⌝ }
-{
-    let mut i = 0;
-    while i < 8200 {
-        bytes[i] = (words[i] % 256) as u8;
-        i += 1;
-    }
-}
-
 // The same for bytes, each a word of which the lowest byte counts.
 fn bytes_lent(input: &[u8], from: usize, has: bool, bytes: &mut [u8]) -> Lent
     requires { ⌜ (from ≤ length (now input)) × (length (now bytes) ≡ 8200) ⌝ }
@@ -163,7 +149,11 @@ fn bytes_lent(input: &[u8], from: usize, has: bool, bytes: &mut [u8]) -> Lent
 {
     let mut words = wide();
     let lent = words_lent(input, from, has, &mut words);
-    narrowed(&words, bytes);
+    let mut i = 0;
+    while i < 8200 {
+        bytes[i] = (words[i] % 256) as u8;
+        i += 1;
+    }
     lent
 }
 
@@ -196,8 +186,9 @@ pub fn known_of(words: &[u64; 16]) -> TagSet {
 fn run(kind: u8, words: &[u64; 16], list: &[u64], bytes: &[u8], table: &mut [u64]) {
     match kind {
         b'=' | b'/' => (),
-        b'#' | b'$' | b'%' => outputs::run(kind, words, list, bytes),
-        b'@' | b'&' => grounds::run(kind, words, bytes),
+        b'#'..=b'%' => outputs::run(kind, words, list, bytes),
+        b'&' => grounds::walk(words, bytes),
+        b'@' => grounds::run(words, bytes),
         b'<' | b'>' => conversions::run(kind, words),
         b'?' | b'r' | b'w' | b'y' | b'z' => readings::run(kind, words, list, bytes, table),
         _ => leaves::run(kind, words, bytes),
@@ -212,7 +203,7 @@ fn given(kind: u8, input: &[u8], from: usize, table: &mut [u64]) -> usize
     let form = form_of(kind);
     let mut words = [0u64; 16];
     let first = words_to(input, from, form % 16, &mut words);
-    let mut wide = [0u64; 1024];
+    let mut wide = wide();
     let list = words_lent(input, first.next, form / 16 % 2 == 1, &mut wide);
     let mut bytes = filled();
     let part = bytes_lent(input, list.next, 32 <= form, &mut bytes);
@@ -235,7 +226,7 @@ fn titled(kind: u8, input: &[u8], at: usize) -> usize
             text::line(&input[from..end]);
             end
         }
-        b'#' | b'$' | b'%' | b'&' | b'@' => {
+        b'#'..=b'&' | b'@' => {
             text::line(&input[at..end]);
             end
         }
@@ -243,21 +234,13 @@ fn titled(kind: u8, input: &[u8], at: usize) -> usize
     }
 }
 
-// One case, and the place after it.
-fn case(input: &[u8], at: usize, table: &mut [u64]) -> usize
-    requires { ⌜ at < length (now input) ⌝ }
-    ensures { λ r. ⌜ (at < r) × (r ≤ length (now (input .entry))) ⌝ }
-{
-    let kind = input[at];
-    let from = titled(kind, input, at);
-    given(kind, input, from, table)
-}
-
 fn cases(input: &[u8]) {
     let mut table = readings::sevens();
     let mut at = word_start(input, 0);
     while at < input.len() {
-        let next = case(input, at, &mut table);
+        let kind = input[at];
+        let from = titled(kind, input, at);
+        let next = given(kind, input, from, &mut table);
         at = word_start(input, next);
     }
 }

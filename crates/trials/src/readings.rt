@@ -21,8 +21,9 @@ fn accepted(count: usize) {
 }
 
 // How many rows there are to write: none after a refusal.
-fn filled(answer: Reading) -> usize {
-    match answer {
+fn read(packet: &[u8], known: TagSet, table: &mut [u64]) -> usize {
+    say(STDOUT_FILENO, b"read\t");
+    match reader::read(packet, known, table) {
         Reading::Rows(filled) => {
             accepted(filled.count);
             filled.count
@@ -40,11 +41,6 @@ fn check(packet: &[u8], known: TagSet) {
         Checked::Accepted(of) => accepted(of.count),
         Checked::Refused(r) => refused(STDOUT_FILENO, r),
     }
-}
-
-fn read(packet: &[u8], known: TagSet, table: &mut [u64]) -> usize {
-    say(STDOUT_FILENO, b"read\t");
-    filled(reader::read(packet, known, table))
 }
 
 // A word of a row, by its column.
@@ -89,18 +85,14 @@ fn read_into(table: &mut [u64], words: &[u64; 16], packet: &[u8]) {
     }
 }
 
-fn table_word(table: &[u64], place: u64) {
-    if place < table.len() as u64 {
-        let at = place as usize;
-        field(STDOUT_FILENO, table[at]);
-    }
-}
-
 fn table_words(table: &[u64], places: &[u64]) {
     say(STDOUT_FILENO, b"table");
     let mut i = 0;
     while i < places.len() {
-        table_word(table, places[i]);
+        let at = places[i] as usize;
+        if at < table.len() {
+            field(STDOUT_FILENO, table[at]);
+        }
         i += 1;
     }
     newline();

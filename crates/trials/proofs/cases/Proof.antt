@@ -22,11 +22,17 @@ word-start-requires c κs = search needs
 loop-holds : tie.Need-loop-holds Inv-loop μ-loop
 loop-holds c = search needs
 
-slice-aggregate-case : tie.Need-slice-aggregate-case Inv-loop μ-loop
-slice-aggregate-case c = search needs
+shared-slice-read-kind : tie.Need-shared-slice-read-kind Inv-loop μ-loop
+shared-slice-read-kind c = search needs
 
-case-requires : tie.Need-case-requires Inv-loop μ-loop
-case-requires c κs = search needs
+titled-requires : tie.Need-titled-requires Inv-loop μ-loop
+titled-requires c κs = search needs
+
+slice-aggregate-given : tie.Need-slice-aggregate-given Inv-loop μ-loop
+slice-aggregate-given c = search needs
+
+given-requires : tie.Need-given-requires Inv-loop μ-loop
+given-requires c κs = search needs
 
 word-start-requires-2 : tie.Need-word-start-requires-2 Inv-loop μ-loop
 word-start-requires-2 c κs = search needs
@@ -49,8 +55,10 @@ cases-spec =
     sevens-requires
     word-start-requires
     loop-holds
-    slice-aggregate-case
-    case-requires
+    shared-slice-read-kind
+    titled-requires
+    slice-aggregate-given
+    given-requires
     word-start-requires-2
     loop-less
     loop-again

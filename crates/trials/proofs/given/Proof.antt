@@ -15,6 +15,9 @@ slice-aggregate-words-to c = search needs
 words-to-requires : tie.Need-words-to-requires
 words-to-requires c κs = search needs
 
+wide-requires : tie.Need-wide-requires
+wide-requires c κs = search needs
+
 slice-aggregate-words-lent : tie.Need-slice-aggregate-words-lent
 slice-aggregate-words-lent c = search needs
 
@@ -58,6 +61,7 @@ given-spec =
     form-of-requires
     slice-aggregate-words-to
     words-to-requires
+    wide-requires
     slice-aggregate-words-lent
     words-lent-requires
     filled-requires

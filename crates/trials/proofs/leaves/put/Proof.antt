@@ -6,16 +6,28 @@ use Rattle.trials.proofs.leaves.put.Statement.{statement}
 use Rattle.trials.proofs.leaves.put.Tie as tie
 
 abbrev Inv-loop : tie.InvT-loop
-Inv-loop out n i₀ i = i ≤ 8
+Inv-loop kind value out n i₀ i = i ≤ 8
 
 abbrev μ-loop : tie.MeasureT-loop
-μ-loop out n i₀ i = 8 - i
+μ-loop kind value out n i₀ i = 8 - i
+
+slice-aggregate-put-tag : tie.Need-slice-aggregate-put-tag Inv-loop μ-loop
+slice-aggregate-put-tag c = search needs
+
+put-tag-requires : tie.Need-put-tag-requires Inv-loop μ-loop
+put-tag-requires c κs = search needs
+
+slice-aggregate-put-length : tie.Need-slice-aggregate-put-length Inv-loop μ-loop
+slice-aggregate-put-length c = search needs
+
+put-length-requires : tie.Need-put-length-requires Inv-loop μ-loop
+put-length-requires c κs = search needs
 
 loop-holds : tie.Need-loop-holds Inv-loop μ-loop
 loop-holds c = search needs
 
-element-copy-out-wide : tie.Need-element-copy-out-wide Inv-loop μ-loop
-element-copy-out-wide c = search needs
+array-read-wide : tie.Need-array-read-wide Inv-loop μ-loop
+array-read-wide c = search needs
 
 wide-requires : tie.Need-wide-requires Inv-loop μ-loop
 wide-requires c κs = search needs
@@ -44,8 +56,12 @@ put-spec =
     (tie.spec
     Inv-loop
     μ-loop
+    slice-aggregate-put-tag
+    put-tag-requires
+    slice-aggregate-put-length
+    put-length-requires
     loop-holds
-    element-copy-out-wide
+    array-read-wide
     wide-requires
     print-hex-requires
     add-i

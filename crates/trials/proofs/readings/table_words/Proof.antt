@@ -21,14 +21,20 @@ say-requires c κs = search needs
 loop-holds : tie.Need-loop-holds Inv-loop μ-loop
 loop-holds c = search needs
 
-mul-table-word : tie.Need-mul-table-word Inv-loop μ-loop
-mul-table-word c = search needs
+mul-at : tie.Need-mul-at Inv-loop μ-loop
+mul-at c = search needs
 
-shared-slice-read-table-word : tie.Need-shared-slice-read-table-word Inv-loop μ-loop
-shared-slice-read-table-word c = search needs
+shared-slice-read-at : tie.Need-shared-slice-read-at Inv-loop μ-loop
+shared-slice-read-at c = search needs
 
-table-word-requires : tie.Need-table-word-requires Inv-loop μ-loop
-table-word-requires c κs = search needs
+mul-field : tie.Need-mul-field Inv-loop μ-loop
+mul-field c = search needs
+
+shared-slice-read-field : tie.Need-shared-slice-read-field Inv-loop μ-loop
+shared-slice-read-field c = search needs
+
+field-requires : tie.Need-field-requires Inv-loop μ-loop
+field-requires c κs = search needs
 
 add-i : tie.Need-add-i Inv-loop μ-loop
 add-i c = search needs
@@ -54,9 +60,11 @@ table-words-spec =
     slice-aggregate-say
     say-requires
     loop-holds
-    mul-table-word
-    shared-slice-read-table-word
-    table-word-requires
+    mul-at
+    shared-slice-read-at
+    mul-field
+    shared-slice-read-field
+    field-requires
     add-i
     loop-less
     loop-again
