@@ -182,6 +182,14 @@ pub fn known_of(words: &[u64; 16]) -> TagSet {
     }
 }
 
+// Reads into the beginning of the table that is kept.
+fn read_into(table: &mut [u64], words: &[u64; 16], packet: &[u8]) {
+    let end = words[2] as usize;
+    if end <= table.len() {
+        readings::answered(reader::read(packet, known_of(words), &mut table[..end]));
+    }
+}
+
 // Runs a case on its words, its list of words, its list of bytes, and the table that is kept.
 fn run(kind: u8, words: &[u64; 16], list: &[u64], bytes: &[u8], table: &mut [u64]) {
     match kind {
@@ -190,7 +198,8 @@ fn run(kind: u8, words: &[u64; 16], list: &[u64], bytes: &[u8], table: &mut [u64
         b'&' => grounds::walk(words, bytes),
         b'@' => grounds::run(words, bytes),
         b'<' | b'>' => conversions::run(kind, words),
-        b'?' | b'r' | b'w' | b'y' | b'z' => readings::run(kind, words, list, bytes, table),
+        b'r' => read_into(table, words, bytes),
+        b'?' | b'w' | b'y' | b'z' => readings::run(kind, words, list, bytes, table),
         _ => leaves::run(kind, words, bytes),
     }
 }

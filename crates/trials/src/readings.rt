@@ -20,10 +20,10 @@ fn accepted(count: usize) {
     sized(b"accepted", count);
 }
 
-// How many rows there are to write: none after a refusal.
-fn read(packet: &[u8], known: TagSet, table: &mut [u64]) -> usize {
+// Writes what a reading came to, and answers how many rows there are to write: none after a refusal.
+pub fn answered(answer: Reading) -> usize {
     say(STDOUT_FILENO, b"read\t");
-    match reader::read(packet, known, table) {
+    match answer {
         Reading::Rows(filled) => {
             accepted(filled.count);
             filled.count
@@ -74,15 +74,8 @@ fn reading(packet: &[u8], words: &[u64; 16]) {
     let known = crate::known_of(words);
     check(packet, known);
     let mut table = sevens();
-    let count = read(packet, known, &mut table);
+    let count = answered(reader::read(packet, known, &mut table));
     rows_of(&table, count);
-}
-
-fn read_into(table: &mut [u64], words: &[u64; 16], packet: &[u8]) {
-    let end = words[2] as usize;
-    if end <= table.len() {
-        read(packet, crate::known_of(words), &mut table[..end]);
-    }
 }
 
 fn table_words(table: &[u64], places: &[u64]) {
@@ -140,10 +133,9 @@ fn taken(rows: &[u64], words: &[u64; 16], buffer: &[u8]) {
 }
 
 // The table is the one that is kept.
-pub fn run(kind: u8, words: &[u64; 16], list: &[u64], bytes: &[u8], table: &mut [u64]) {
+pub fn run(kind: u8, words: &[u64; 16], list: &[u64], bytes: &[u8], table: &[u64]) {
     match kind {
         b'?' => reading(bytes, words),
-        b'r' => read_into(table, words, bytes),
         b'w' => table_words(table, list),
         b'y' => taken(table, words, bytes),
         _ => taken(list, words, bytes),

@@ -1,10 +1,10 @@
--- `trials::readings::read_into` meets its contract.
+-- `trials::read_into` meets its contract.
 -- Assumes nothing.
 use mathlib.Core.Path.{sym}
 use borrow.Author.Needs.{needs}
 use lib.Seq.{length-take-le}
-use Rattle.trials.proofs.readings.read_into.Statement.{statement}
-use Rattle.trials.proofs.readings.read_into.Tie as tie
+use Rattle.trials.proofs.read_into.Statement.{statement}
+use Rattle.trials.proofs.read_into.Tie as tie
 
 element-copy-out-end : tie.Need-element-copy-out-end
 element-copy-out-end c = search needs
@@ -20,6 +20,9 @@ slice-aggregate-read c = sym (length-take-le _ _ (slice-relend-prefix-read (c .b
 
 read-requires : tie.Need-read-requires
 read-requires c κs = search needs
+
+answered-requires : tie.Need-answered-requires
+answered-requires c κs = search needs
 
 same-length : tie.Need-same-length
 same-length c = search needs
@@ -39,6 +42,7 @@ read-into-spec =
     slice-relend-prefix-read
     slice-aggregate-read
     read-requires
+    answered-requires
     same-length
     returns
     returns-2)
