@@ -9,7 +9,6 @@ use mathlib.Core.List.{List}
 use lib.ListN.{length, getD, drop}
 use borrow.Author.Tests.{lt-ltb, le-ltb, ne-eqb}
 use Rattle.base.proofs.Parts.{cons-at, nil-at}
-use Rattle.console.specs.declared.Word.{Word}
 use Rattle.console.specs.declared.Word.the-variants.{Is, Not}
 use Rattle.console.specs.Word.{digitOf, wordFrom, wordOf}
 

@@ -65,8 +65,14 @@ module _ (K : Knowing) (b : List ℕ) (r : RowWords) where
       let kind = k ∙ (ap (kindFor (Number width marked)) (sym back) ∙ sym (kind-seen _ (bytesOf width (r .code)) (Number width marked) _)) in
       record { kind = rw f kind; code = λ z. rw f (sym back ∙ sym (code-seen _ (bytesOf width (r .code)) width marked _)); size = rw f size })
 
-  part-size : leb (partPlace (r .part) + partLength (r .part)) (length b) ≡ true → partLength (r .part) ≡ length (bytesAt b r)
-  part-size e = rw (length-take, length-drop) (omega (arith, leb-true (partPlace (r .part) + partLength (r .part)) (length b) e))
+  -- text and carried bytes have no code, and lie in the buffer
+  no-code : contentGood Text (length b) r ≡ true → r .code ≡ 0
+  no-code c = eqb-true _ _ (both-left (eqb (r .code) 0) _ c)
+
+  part-size : contentGood Text (length b) r ≡ true → partLength (r .part) ≡ length (bytesAt b r)
+  part-size c =
+      let e = leb-true (partPlace (r .part) + partLength (r .part)) (length b) (both-right (eqb (r .code) 0) _ c) in
+      rw (length-take, length-drop) (omega (arith, e))
 
   -- a row that is not bad is made so
   pub good-made : GoodRow K b r → Made K b r
@@ -78,20 +84,8 @@ module _ (K : Knowing) (b : List ℕ) (r : RowWords) where
     where
       go : (s : Shape) → shapeFor K (r .tag) ≡ s → r .kind ≡ kindFor s (r .code) → contentGood s (length b) r ≡ true → Made K b r
       go (Number width marked) f k c = number-made width marked f k c
-      go Text f k c =
-          record {
-            kind =
-                rw f k;
-            code = λ other. rw f (eqb-true _ _ (both-left (eqb (r .code) 0) _ c));
-            size = rw f (part-size (both-right (eqb (r .code) 0) _ c));
-          }
-      go Absent f k c =
-          record {
-            kind =
-                rw f k;
-            code = λ other. rw f (eqb-true _ _ (both-left (eqb (r .code) 0) _ c));
-            size = rw f (part-size (both-right (eqb (r .code) 0) _ c));
-          }
+      go Text f k c = record { kind = rw f k; code = λ other. rw f (no-code c); size = rw f (part-size c) }
+      go Absent f k c = record { kind = rw f k; code = λ other. rw f (no-code c); size = rw f (part-size c) }
 
   -- and its piece's tag can be written
   pub good-tagged : GoodRow K b r → Tagged (pieceOf K b r)

@@ -2,7 +2,7 @@
 -- Assumes nothing.
 use Prim.Native.Nat.{ℕ, zero, suc, _+_, _*_, _/_, _%_, _^_, _<_}
 use native.Mathlib.Omega.{arith}
-use native.Mathlib.Nat.{pow-zero, pow-suc, pow-succ', one-le-pow, add-mul, mul-assoc, mod-eq-of-lt}
+use native.Mathlib.Nat.{pow-zero, pow-suc, mod-eq-of-lt}
 use mathlib.Core.Path.{_≡_, refl, ap, _∙_}
 use mathlib.Core.List.{List, [], _∷_, _++_}
 use lib.ListN.{length, getD, take, drop}
@@ -15,8 +15,8 @@ use mir.Syntax.{w8}
 use mir.Val.{Fits}
 use Rattle.base.specs.Every.{all}
 use Rattle.base.proofs.Every.{both-left, both-right}
-use Rattle.base.proofs.Digits.{length-digits}
-use lib.Arith.{digits-lt, digits-div, mod-mul}
+use Rattle.base.proofs.Digits.{length-digits, one-digit}
+use lib.Arith.{digits-lt, digits-div}
 use Rattle.number.specs.Stored.{Bytes, valueFrom, valueOf, bytesOf}
 
 -- lists of bytes
@@ -115,12 +115,7 @@ spelled l n x by e f = rw (← e, ← f) (bytes-value 0 l by)
 pub value-bytes : (h n x : ℕ) → valueFrom h (bytesOf n x) ≡ h * 256 ^ n + x % 256 ^ n
 unfolding valueFrom bytesOf
 value-bytes h zero x = omega arith
-value-bytes h (suc n) x =
-    let p : ℕ = 256 ^ n in
-    let d : ℕ = x / p % 256 in
-    let e : x % (256 * p) ≡ d * p + x % p = mod-mul x (omega arith) (one-le-pow n 256 (omega arith)) in
-    let f : (h * 256 + d) * p ≡ h * (256 * p) + d * p = add-mul (h * 256) d p ∙ ap (λ y. y + d * p) (mul-assoc h 256 p) in
-    value-bytes (h * 256 + d) n x ∙ rw (pow-succ' 256 n) (omega (arith, e, f))
+value-bytes h (suc n) x = value-bytes (h * 256 + x / 256 ^ n % 256) n x ∙ one-digit 256 h n x (omega arith)
 
 pub bytes-back : (n x : ℕ) → x < 256 ^ n → valueOf (bytesOf n x) ≡ x
 bytes-back n x h = value-bytes 0 n x ∙ rw (mod-eq-of-lt h) (omega arith)

@@ -9,7 +9,7 @@ use lib.Dec.{eqb}
 use lib.ListN.{length, take, drop, length-take, length-drop}
 use borrow.Author.Tests.{eqb-true, eq-eqb, ne-eqb}
 use Rattle.base.proofs.Every.{both-left, both-right}
-use Rattle.refusal.specs.Answer.{Answer, given, refused}
+use Rattle.refusal.specs.Answer.{given, refused}
 use Rattle.refusal.proofs.Answers.{passed}
 use Rattle.number.specs.Stored.{Bytes, valueOf}
 use Rattle.number.proofs.Laws.{bytes-take, bytes-drop, value-small}

@@ -7,7 +7,7 @@ use mathlib.Core.List.{List, [], _∷_, _++_}
 use lib.ListN.{length, take, drop, replicate}
 use lib.Dec.{ltb}
 use Rattle.refusal.specs.Answer.{Answer, refused, map, orElse}
-use Rattle.number.specs.Stored.{valueOf, bytesOf}
+use Rattle.number.specs.Stored.{bytesOf}
 use Rattle.tagset.specs.Sets.{holds}
 use Rattle.tagset.specs.declared.TagSet.{TagSet}
 use Rattle.knowing.specs.Good.{good}

@@ -4,7 +4,7 @@ ghost use mathlib.Core.Path.{_≡_};
 ghost use mathlib.Core.Bool.{true, false, cond, _&&_};
 ghost use Prim.Native.Nat.{_-_, _*_, _/_, _^_, _<_, _≤_};
 ghost use lib.Dec.{leb};
-ghost use lib.IntN.{ℤ, natAbs, _-ℤ_, _+ℤ_, pos};
+ghost use lib.IntN.{natAbs, _-ℤ_, _+ℤ_, pos};
 ghost use lib.Signed.{mag, ltZ};
 ghost use Rattle.catalogue.specs.Shapes.{isMarked};
 ghost use Rattle.scale.specs.Nearest.{nearest};

@@ -2,13 +2,13 @@
 -- Assumes nothing.
 use Prim.Native.Nat.{ℕ, zero, suc, _+_, _*_, _-_, _/_, _%_, _^_, _<_, _≤_}
 use native.Mathlib.Omega.{arith}
-use native.Mathlib.Nat.{pow-suc, pow-succ', one-le-pow, add-mul, mul-assoc, mod-eq-of-lt, le-div-iff-mul-le, div-lt-iff-lt-mul}
+use native.Mathlib.Nat.{pow-suc, pow-succ', one-le-pow, mod-eq-of-lt, le-div-iff-mul-le, div-lt-iff-lt-mul}
 use mathlib.Core.Path.{_≡_, refl, ap, _∙_}
 use mathlib.Core.List.{List, [], _∷_}
-use lib.Arith.{mod-mul}
 use lib.IntN.{ℤ, pos, negsuc, natAbs}
 use lib.ListN.{length, getD}
 use Rattle.base.proofs.Cases.{byLt}
+use Rattle.base.proofs.Digits.{one-digit}
 use Rattle.spelling.specs.Spelling.{digits, countFrom, decimal, whole, hex}
 use Rattle.spelling.proofs.Digits.{count-one, count-more, decimal-length}
 
@@ -22,12 +22,9 @@ read-digits : (h k n : ℕ) → readFrom h (digits k n) ≡ h * 10 ^ k + n % 10 
 unfolding readFrom digits
 read-digits h zero n = omega arith
 read-digits h (suc k) n =
-    let p : ℕ = 10 ^ k in
-    let d : ℕ = n / p % 10 in
-    let e : n % (10 * p) ≡ d * p + n % p = mod-mul n (omega arith) (one-le-pow k 10 (omega arith)) in
-    let f : (h * 10 + d) * p ≡ h * (10 * p) + d * p = add-mul (h * 10) d p ∙ ap (λ y. y + d * p) (mul-assoc h 10 p) in
+    let d : ℕ = n / 10 ^ k % 10 in
     let g : 48 + d - 48 ≡ d = omega arith in
-    ap (λ x. readFrom (h * 10 + x) (digits k n)) g ∙ (read-digits (h * 10 + d) k n ∙ rw (pow-succ' 10 k) (omega (arith, e, f)))
+    ap (λ x. readFrom (h * 10 + x) (digits k n)) g ∙ (read-digits (h * 10 + d) k n ∙ one-digit 10 h k n (omega arith))
 
 -- enough digits are counted
 count-enough : (m n : ℕ) → n < 10 ^ suc m → n < 10 ^ countFrom m n

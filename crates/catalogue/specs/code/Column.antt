@@ -5,9 +5,7 @@ use mathlib.Core.Bool.{true, false, cond}
 use mathlib.Core.List.{List, [], _∷_}
 use lib.Dec.{leb, eqb}
 use lib.ListN.{getD}
-use Rattle.catalogue.specs.Shapes.{isMarked, shapeOf}
-use Rattle.catalogue.specs.Rows.{signBy}
-use Rattle.catalogue.specs.declared.Entry.{Entry}
+use Rattle.catalogue.specs.Shapes.{shapeOf}
 use Rattle.catalogue.specs.declared.Shape.{Shape}
 use Rattle.catalogue.specs.declared.Shape.the-variants.{Text, Number, Absent}
 
