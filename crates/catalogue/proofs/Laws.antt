@@ -7,9 +7,8 @@ use mathlib.Core.Path.{_≡_, refl, sym, _∙_}
 use mathlib.Core.Bool.{Bool, true, false, cond, _&&_}
 use mathlib.Core.List.{List, [], _∷_}
 use lib.Dec.{ltb}
-use lib.IntN.{ℤ, pos, _+ℤ_}
+use lib.IntN.{ℤ, _+ℤ_}
 use lib.Signed.{mag}
-use lib.ListN.{getD}
 use mir.Syntax.{w64}
 use mir.Val.{SFits}
 use borrow.Author.Tests.{ltb-true, ne-eqb}
@@ -19,7 +18,7 @@ use Rattle.base.proofs.Every.{all-below, both-left, both-right}
 use Rattle.tagset.specs.Sets.{holds, countBelow}
 use Rattle.tagset.proofs.Laws.{Words, holds-none}
 use Rattle.catalogue.specs.Items.{Group, groups, member, itemIn, itemOf}
-use Rattle.catalogue.specs.Rows.{rowsFrom, rows, allTags, itemBy}
+use Rattle.catalogue.specs.Rows.{rowsFrom, rows, entryAt, allTags, itemBy}
 use Rattle.catalogue.specs.declared.Entry.{Entry}
 use Rattle.catalogue.specs.declared.Found.the-variants.{Known, Absent}
 use Rattle.catalogue.proofs.Same.{sameFound, same-found}
@@ -49,13 +48,6 @@ pub item-beyond : (t : ℕ) → 128 ≤ t → itemOf t ≡ Absent
 unfolding itemOf
 item-beyond t h = absent-in groups t groups-below h
 
--- the row at a place, as the code reads it
-abbrev pub noEntry : Entry
-noEntry = (0, 0, false, pos 0, pos 0)
-
-abbrev pub rowAt : ℕ → Entry
-rowAt at = getD rows at noEntry
-
 -- a whole number of 64 bits
 unfoldable pub small : ℤ → Bool
 small z = ltb (mag z) (2 ^ 63)
@@ -71,7 +63,7 @@ rightRow e t = small (e .3) && (small (e .4) && (small (e .3 +ℤ e .4) && sameF
 placed : ℕ → Bool
 placed t =
     cond (holds allTags t)
-    (ltb (countBelow allTags t) 64 && rightRow (rowAt (countBelow allTags t)) t)
+    (ltb (countBelow allTags t) 64 && rightRow (entryAt (countBelow allTags t)) t)
     (sameFound Absent (itemOf t))
 
 all-placed : allBelow placed 128 ≡ true
@@ -102,7 +94,7 @@ right-row t e p =
 
 pub record Held (t at : ℕ) : Type 0 where
   pub inside : at < 64
-  pub right : Right t (rowAt at)
+  pub right : Right t (entryAt at)
 
 pub item-held : (t : ℕ) → holds allTags t ≡ true → Held t (countBelow allTags t)
 unfolding placed
@@ -113,7 +105,7 @@ item-held t e =
     let p = rw e at (all-below placed 128 all-placed t h) in
     record {
       inside = ltb-true at 64 (both-left (ltb at 64) _ p);
-      right = right-row t (rowAt at) (both-right (ltb at 64) _ p);
+      right = right-row t (entryAt at) (both-right (ltb at 64) _ p);
     })
     (λ h. clash (sym e ∙ holds-none allTags all-words t h))
 

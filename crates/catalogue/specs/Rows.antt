@@ -4,6 +4,7 @@ use mathlib.Core.Bool.{Bool, true, false, cond}
 use mathlib.Core.List.{List, [], _∷_}
 use lib.Dec.{eqb}
 use lib.IntN.{ℤ, pos, negsuc, _+ℤ_}
+use lib.ListN.{getD}
 use Rattle.tagset.specs.declared.TagSet.{TagSet}
 use Rattle.catalogue.specs.Items.{itemOf}
 use Rattle.catalogue.specs.declared.Sign.{Sign}
@@ -30,6 +31,10 @@ rowsFrom (suc n) t = onto (itemOf t) (rowsFrom n (suc t))
 
 unfoldable pub rows : List Entry
 rows = rowsFrom 128 0
+
+-- the row at a place
+abbrev pub entryAt : ℕ → Entry
+entryAt at = getD rows at (0, 0, false, pos 0, pos 0)
 
 -- the tags of all rows: bit t of the pair for each tag t
 abbrev pub bits : List Entry → ℕ

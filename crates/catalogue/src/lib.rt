@@ -1,11 +1,13 @@
 // The catalogue: the items that document 01 knows, as one table of tag, width, sign, low and high in house units.
 // Every answer is the one table's, in constant time, for every tag of 64 bits.
 ghost use mathlib.Core.Path.{_≡_};
+ghost use mathlib.Core.Bool.{true};
 ghost use lib.IntN.{_+ℤ_};
 ghost use mir.Syntax.{w64};
 ghost use mir.Val.{SFits};
+ghost use Rattle.tagset.specs.Sets.{holds, countBelow};
 ghost use Rattle.catalogue.specs.Items.{itemOf};
-ghost use Rattle.catalogue.specs.Rows.{rows, allTags, signBy};
+ghost use Rattle.catalogue.specs.Rows.{rows, entryAt, allTags, signBy};
 ghost use Rattle.catalogue.specs.Shapes.{shapeAllows, codesLimited, codeAllowed};
 ghost use Rattle.catalogue.specs.code.Column.{shapeColumn, shapeIn};
 use tagset::TagSet;
@@ -140,15 +142,87 @@ fn sign_of(row: Entry) -> Sign
     Sign::Unsigned
 }
 
-// What the catalogue has for a tag: the row that stands after as many rows as there are tags below.
+// The row of a tag that is in the table. It is long as the table is: all indices are constants, so no row is stored into the frame.
+fn row_of(tag: u64) -> Entry
+    requires { ⌜ holds allTags tag ≡ true ⌝ }
+    ensures { λ r. ⌜ r ≡ entryAt (countBelow allTags tag) ⌝ }
+{
+    let rows = table();
+    match tag {
+        1 => rows[0],
+        2 => rows[1],
+        3 => rows[2],
+        4 => rows[3],
+        5 => rows[4],
+        6 => rows[5],
+        7 => rows[6],
+        8 => rows[7],
+        9 => rows[8],
+        10 => rows[9],
+        11 => rows[10],
+        12 => rows[11],
+        13 => rows[12],
+        14 => rows[13],
+        15 => rows[14],
+        16 => rows[15],
+        17 => rows[16],
+        18 => rows[17],
+        19 => rows[18],
+        20 => rows[19],
+        21 => rows[20],
+        22 => rows[21],
+        23 => rows[22],
+        24 => rows[23],
+        25 => rows[24],
+        26 => rows[25],
+        27 => rows[26],
+        28 => rows[27],
+        29 => rows[28],
+        30 => rows[29],
+        31 => rows[30],
+        32 => rows[31],
+        33 => rows[32],
+        34 => rows[33],
+        35 => rows[34],
+        36 => rows[35],
+        37 => rows[36],
+        38 => rows[37],
+        39 => rows[38],
+        55 => rows[39],
+        56 => rows[40],
+        57 => rows[41],
+        59 => rows[42],
+        63 => rows[43],
+        64 => rows[44],
+        65 => rows[45],
+        67 => rows[46],
+        68 => rows[47],
+        70 => rows[48],
+        71 => rows[49],
+        75 => rows[50],
+        78 => rows[51],
+        79 => rows[52],
+        80 => rows[53],
+        82 => rows[54],
+        83 => rows[55],
+        84 => rows[56],
+        85 => rows[57],
+        86 => rows[58],
+        87 => rows[59],
+        88 => rows[60],
+        89 => rows[61],
+        90 => rows[62],
+        _ => rows[63],
+    }
+}
+
+// What the catalogue has for a tag.
 pub fn item_of(tag: u64) -> Found
     ensures { λ r. ⌜ r ≡ itemOf tag ⌝ }
 {
     let all = all_tags();
     if tagset::has(all, tag) {
-        let at = tagset::count_below(all, tag);
-        let rows = table();
-        let row = rows[at];
+        let row = row_of(tag);
         return Found::Known(Item {
             tag: row.0,
             width: row.1,

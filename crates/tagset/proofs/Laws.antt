@@ -1,20 +1,18 @@
 -- What the two words mean as a set: `holds` by the words, and `within` as inclusion.
 -- Assumes nothing.
-use Prim.Native.Nat.{ℕ, zero, suc, _+_, _-_, _%_, _^_, _<_, _≤_}
+use Prim.Native.Nat.{ℕ, _+_, _-_, _%_, _^_, _<_, _≤_}
 use native.Mathlib.Omega.{arith}
-use native.Mathlib.Nat.{suc-add}
-use mathlib.Core.Path.{_≡_, refl, ap, sym, _∙_}
-use mathlib.Core.Bool.{cond, true, false, not, _||_}
+use mathlib.Core.Path.{_≡_, ap, sym, _∙_}
+use mathlib.Core.Bool.{true, false, not, _||_}
 use lib.Dec.{eqb}
 use lib.Bits.{bitAnd, bitOr, or-lt}
 use lib.Pow.{pow-lt}
-use lib.Count.{ones}
 use borrow.Author.Tests.{eq-eqb, eqb-true, lt-ltb, le-ltb}
 use Rattle.base.proofs.Cases.{byLt, clash, unless, unless-true}
 use Rattle.base.proofs.Every.{all-below, below-all}
-use Rattle.tagset.specs.Sets.{holds, within, countBelow, withTag}
+use Rattle.tagset.specs.Sets.{holds, within, withTag}
 use Rattle.tagset.specs.declared.TagSet.{TagSet}
-use Rattle.tagset.proofs.Words.{set-bit, other-bit, one-more, no-ones, all-ones, bit, low-bit, high-bit, no-bit, masked-bits, bits-masked}
+use Rattle.tagset.proofs.Words.{set-bit, other-bit, bit, low-bit, high-bit, no-bit, masked-bits, bits-masked}
 
 -- each is a word of 64 bits
 pub record Words (s : TagSet) : Type 0 where
@@ -76,34 +74,6 @@ module _ (s of : TagSet) (ws : Words s) (wo : Words of) where
       let same : 64 + k - 64 ≡ k = omega arith in
       eqb-true _ 1 (sym (holds-high of wo (64 + k) m ∙ ap (λ j. eqb (bit (of .high) j) 1) same)
       ∙ i .each (64 + k) (holds-high s ws (64 + k) m ∙ (ap (λ j. eqb (bit (s .high) j) 1) same ∙ eq-eqb _ 1 f))))
-
--- how many tags are below a tag, by the words
-module _ (s : TagSet) (w : Words s) where
-  count-none : countBelow s 0 ≡ 0
-  unfolding countBelow
-  count-none = refl
-
-  count-step : (t : ℕ) → countBelow s (suc t) ≡ cond (holds s t) 1 0 + countBelow s t
-  unfolding countBelow
-  count-step t = refl
-
-  pub count-low : (t : ℕ) → t ≤ 64 → countBelow s t ≡ ones (s .low % 2 ^ t)
-  count-low zero h = count-none ∙ sym (no-ones (s .low))
-  count-low (suc t) h = count-step t ∙ rw (holds-low s w t (omega arith), count-low t (omega arith)) (one-more (s .low) t)
-
-  pub count-high : (t : ℕ) → t ≤ 64 → countBelow s (t + 64) ≡ ones (s .low) + ones (s .high % 2 ^ t)
-  count-high zero h = omega (arith, count-low 64 (omega arith), all-ones (s .low) (w .low64), no-ones (s .high))
-  count-high (suc t) h =
-      let e : t + 64 - 64 ≡ t = omega arith in
-      let b : holds s (t + 64) ≡ eqb (bit (s .high) t) 1 = holds-high s w (t + 64) (omega arith) ∙ ap (λ k. eqb (bit (s .high) k) 1) e in
-      ap (countBelow s) (suc-add t 64) ∙ count-step (t + 64)
-      ∙ rw b (omega (arith, count-high t (omega arith), one-more (s .high) t))
-
-  pub count-all : (t : ℕ) → countBelow s (t + 128) ≡ ones (s .low) + ones (s .high)
-  count-all zero = count-high 64 (omega arith) ∙ ap (λ x. ones (s .low) + x) (all-ones (s .high) (w .high64))
-  count-all (suc t) =
-      ap (countBelow s) (suc-add t 128) ∙ count-step (t + 128)
-      ∙ rw (holds-none s w (t + 128) (omega arith)) (omega (arith, count-all t))
 
 -- a tag more
 module _ (s : TagSet) (w : Words s) (t : ℕ) where

@@ -4,8 +4,6 @@ use mathlib.Core.Path.{sym, _∙_}
 use Rattle.base.specs.Determined.{Answered}
 use Rattle.tagset.proofs.has.Kinds as has-kinds
 use Rattle.tagset.proofs.has.Reads as has-reads
-use Rattle.tagset.proofs.count_below.Kinds as count-below-kinds
-use Rattle.tagset.proofs.count_below.Reads as count-below-reads
 use Rattle.tagset.proofs.with_tag.Kinds as with-tag-kinds
 use Rattle.tagset.proofs.with_tag.Reads as with-tag-reads
 use Rattle.tagset.proofs.is_within.Kinds as is-within-kinds
@@ -16,9 +14,6 @@ has-determined κs a z z′ e e′ p q = p ∙ sym q
 
 pub is-within-determined : Answered 0 is-within-kinds.ps is-within-kinds.r is-within-reads.Post
 is-within-determined κs a z z′ e e′ p q = p ∙ sym q
-
-pub count-below-determined : Answered 0 count-below-kinds.ps count-below-kinds.r count-below-reads.Post
-count-below-determined κs a z z′ e e′ p q = p ∙ sym q
 
 pub with-tag-determined : Answered 0 with-tag-kinds.ps with-tag-kinds.r with-tag-reads.Post
 with-tag-determined κs a z z′ e e′ p q = p ∙ sym q

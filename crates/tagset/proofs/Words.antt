@@ -2,12 +2,9 @@
 -- Assumes nothing.
 use Prim.Native.Nat.{ℕ, zero, suc, _+_, _-_, _*_, _/_, _%_, _^_, _<_, _≤_, min}
 use native.Mathlib.Omega.{arith}
-use native.Mathlib.Nat.{le-trans, div-eq-of-lt, pow-suc, one-mul, mod-lt, mod-eq-of-lt, mul-div-cancel, mul-mod-left, div-self}
+use native.Mathlib.Nat.{le-trans, div-eq-of-lt, pow-suc, one-mul, mul-div-cancel, mul-mod-left, div-self}
 use mathlib.Core.Path.{_≡_, refl, ap, sym, _∙_}
-use mathlib.Core.Bool.{cond}
-use lib.Dec.{eqb}
-use lib.Count.{ones, ones-cat}
-use lib.Pow.{pow-add, pow-lt, pow-pos, shl-exact, mod-pow-add, pow-mono, shr-shr, field, mod-mod-pow, high, low}
+use lib.Pow.{pow-add, pow-lt, pow-pos, shl-exact, pow-mono, shr-shr, field, mod-mod-pow, high, low}
 use lib.Bits.{bitOr, or-shr, or-mod, or-zero-r, bitAnd, and-mask, and-step, and-shr, and-mod, and-zero-l}
 use Rattle.base.proofs.Cases.{byEq, byLt}
 
@@ -68,28 +65,6 @@ bits-masked (suc n) a b h f =
 
 pub one-shl : (k : ℕ) → k < 64 → 1 * 2 ^ k % 2 ^ 64 ≡ 2 ^ k
 one-shl k h = shl-exact {a = 1} 1 k 64 (omega arith) (omega arith) ∙ one-mul (2 ^ k)
-
--- the set bits below bit k, and bit k
-ones-bit : (b : ℕ) → b < 2 → cond (eqb b 1) 1 0 ≡ ones b
-unfolding ones
-ones-bit zero h = refl
-ones-bit (suc zero) h = refl
-ones-bit (suc (suc b)) h = absurd (omega arith)
-
-pub one-more : (w k : ℕ) → cond (eqb (bit w k) 1) 1 0 + ones (w % 2 ^ k) ≡ ones (w % 2 ^ suc k)
-one-more w k =
-    let e : 1 + k ≡ suc k = omega arith in
-    ap (λ x. x + ones (w % 2 ^ k)) (ones-bit (bit w k) (bit-small w k))
-    ∙ sym (ones-cat k (bit w k) (w % 2 ^ k) (mod-lt w (pow-pos k)))
-    ∙ ap ones (sym (mod-pow-add w 1 k))
-    ∙ ap (λ j. ones (w % 2 ^ j)) e
-
-pub no-ones : (w : ℕ) → ones (w % 2 ^ 0) ≡ 0
-unfolding ones
-no-ones w = let e : w % 1 ≡ 0 = omega arith in rw e refl
-
-pub all-ones : (w : ℕ) → w < 2 ^ 64 → ones (w % 2 ^ 64) ≡ ones w
-all-ones w h = ap ones (mod-eq-of-lt h)
 
 -- a bit set, and the others as they were
 pow-bit : (k j : ℕ) → (j ≡ k → ⊥) → bit (2 ^ k) j ≡ 0

@@ -21,6 +21,7 @@ holds s t = eqb (pair s / 2 ^ t % 2) 1
 unfoldable pub within : TagSet → TagSet → Bool
 within s of = allBelow (λ t. not (holds s t) || holds of t) 128
 
+-- how many tags below a tag it holds
 unfoldable pub countBelow : TagSet → ℕ → ℕ
 countBelow s zero = 0
 countBelow s (suc t) = cond (holds s t) 1 0 + countBelow s t

@@ -1,11 +1,12 @@
 -- `catalogue::item_of` meets its contract.
 -- Assumes nothing.
 use borrow.Author.Needs.{needs}
-use mathlib.Core.Path.{sym, ap, _∙_}
-use native.Mathlib.Omega.{arith}
+use mathlib.Core.Bool.{true}
+use mathlib.Core.Path.{_≡_, sym, ap, _∙_}
 use mir.Facts.{toZ-ofZ}
 use Rattle.tagset.specs.Sets.{holds}
-use Rattle.catalogue.proofs.Laws.{Held, item-held, item-none}
+use Rattle.catalogue.specs.Rows.{allTags}
+use Rattle.catalogue.proofs.Laws.{item-held, item-none}
 use Rattle.catalogue.proofs.item_of.Statement.{statement}
 use Rattle.catalogue.proofs.item_of.Tie as tie
 
@@ -15,34 +16,22 @@ all-tags-requires c κs = search needs
 has-requires : tie.Need-has-requires
 has-requires c κs = search needs
 
-count-below-requires : tie.Need-count-below-requires
-count-below-requires c κs = search needs
+holding : (c : tie.Then1) → holds allTags (c .before .before .before .args .tag) ≡ true
+holding c =
+    let a = c .before .before in
+    ap (λ s. holds s (a .before .args .tag)) (sym (a .all-tags .ensures)) ∙ (sym (c .before .has .ensures) ∙ c .if1 .taken)
 
-table-requires : tie.Need-table-requires
-table-requires c κs = search needs
-
-held : (c : tie.After-table) → Held (c .before .before .before .before .before .args .tag) (c .before .count-below .result)
-held c =
-    let a = c .before .before .before .before in
-    let tag = a .before .args .tag in
-    let all = a .all-tags .ensures in
-    rw (c .before .count-below .ensures, all)
-    (item-held tag (ap (λ s. holds s tag) (sym all) ∙ (sym (c .before .before .before .has .ensures) ∙ c .before .before .if1 .taken)))
-
-mul-row : tie.Need-mul-row
-mul-row c = omega (arith, held c .inside)
-
-array-copy-out-row : tie.Need-array-copy-out-row
-array-copy-out-row c = held c .inside
+row-of-requires : tie.Need-row-of-requires
+row-of-requires c κs = holding c
 
 sign-of-requires : tie.Need-sign-of-requires
-sign-of-requires c κs = rw (c .before .table .ensures) (held (c .before) .right .sum-fits)
+sign-of-requires c κs = rw (c .row-of .ensures) (item-held _ (holding (c .before)) .right .sum-fits)
 
 returns : tie.Need-returns
 returns c =
-    let h = held (c .before .before .before) in
-    let e = c .before .before .before .table .ensures in
-    rw (c .before .sign-of .ensures, e, toZ-ofZ (h .right .low-fits), toZ-ofZ (h .right .high-fits)) (h .right .item)
+    let h = item-held _ (holding (c .before .before .before)) .right in
+    let e = c .before .before .row-of .ensures in
+    rw (c .before .sign-of .ensures, e, toZ-ofZ (h .low-fits), toZ-ofZ (h .high-fits)) (h .item)
 
 returns-2 : tie.Need-returns-2
 returns-2 c =
@@ -56,10 +45,7 @@ item-of-spec =
     (tie.spec
     all-tags-requires
     has-requires
-    count-below-requires
-    table-requires
-    mul-row
-    array-copy-out-row
+    row-of-requires
     sign-of-requires
     returns
     returns-2)
