@@ -1,93 +1,140 @@
 -- The column of shapes: what it says of each tag is what the catalogue says.
 -- Assumes nothing.
-use Prim.Native.Nat.{ℕ, _-_, _%_, _<_, _≤_}
+use Prim.Native.Nat.{ℕ, _+_, _/_, _%_, _<_, _≤_}
 use native.Mathlib.Omega.{arith}
 use mathlib.Core.Path.{_≡_, refl, ap, sym, _∙_}
-use mathlib.Core.Bool.{Bool, true, false, _||_}
-use lib.Dec.{leb, eqb}
+use mathlib.Core.Bool.{Bool, true, false, _&&_, _||_}
+use lib.Dec.{eqb}
 use lib.ListN.{getD}
-use borrow.Author.Tests.{leb-true, eqb-true, ne-eqb, le-leb, lt-leb}
-use Rattle.base.proofs.Cases.{byLt, clash}
+use borrow.Author.Tests.{eqb-true, le-leb, lt-leb}
+use Rattle.base.proofs.Cases.{byLt, clash, never}
 use Rattle.base.specs.Every.{allBelow}
-use Rattle.base.proofs.Every.{all-below}
+use Rattle.base.proofs.Every.{all-below, both-left, both-right}
 use Rattle.catalogue.specs.Items.{groups, member, itemIn, itemOf}
-use Rattle.catalogue.specs.Shapes.{shapeBy, shapeOf, shapeAllows, codesLimited, codeAllowed}
-use Rattle.catalogue.specs.code.Column.{columnFrom, shapeColumn, shapeFrom, shapeIn}
+use Rattle.catalogue.specs.Shapes.{shapeBy, shapeOf, codesLimited, codeAllowed}
+use Rattle.catalogue.specs.code.Column.{columnFrom, shapeColumn, shapeWidth, shapeByte, shapeFrom, shapeIn, widthIn}
 use Rattle.catalogue.specs.declared.Shape.{Shape}
 use Rattle.catalogue.specs.declared.Shape.the-variants.{Text, Number, Absent}
 use Rattle.catalogue.proofs.Laws.{item-beyond}
 
--- the column's shape of each tag is the catalogue's
-sameShape : Shape → Shape → Bool
-sameShape Text Text = true
-sameShape Text (Number w m) = false
-sameShape Text Absent = false
-sameShape (Number w m) Text = false
-sameShape (Number w true) (Number v true) = eqb w v
-sameShape (Number w true) (Number v false) = false
-sameShape (Number w false) (Number v true) = false
-sameShape (Number w false) (Number v false) = eqb w v
-sameShape (Number w m) Absent = false
-sameShape Absent Text = false
-sameShape Absent (Number w m) = false
-sameShape Absent Absent = true
+shape-beyond : (t : ℕ) → 128 ≤ t → shapeOf t ≡ Absent
+unfolding shapeOf
+shape-beyond t h = ap shapeBy (item-beyond t h)
 
-same-shape : (a b : Shape) → sameShape a b ≡ true → a ≡ b
-unfolding sameShape
-same-shape Text Text e = refl
-same-shape Text (Number w m) e = clash (sym e)
-same-shape Text Absent e = clash (sym e)
-same-shape (Number w m) Text e = clash (sym e)
-same-shape (Number w true) (Number v true) e = ap (λ x. Number x true) (eqb-true w v e)
-same-shape (Number w true) (Number v false) e = clash (sym e)
-same-shape (Number w false) (Number v true) e = clash (sym e)
-same-shape (Number w false) (Number v false) e = ap (λ x. Number x false) (eqb-true w v e)
-same-shape (Number w m) Absent e = clash (sym e)
-same-shape Absent Text e = clash (sym e)
-same-shape Absent (Number w m) e = clash (sym e)
-same-shape Absent Absent e = refl
+-- every number has 1, 2, 4 or 8 bytes
+wide : Shape → Bool
+wide Text = true
+wide (Number w m) = eqb w 1 || (eqb w 2 || (eqb w 4 || eqb w 8))
+wide Absent = true
 
+-- the column's byte of each tag is that of the catalogue's shape
 inColumn : ℕ → Bool
-inColumn t = sameShape (shapeFrom (getD shapeColumn t 0)) (shapeOf t)
+inColumn t = eqb (getD shapeColumn t 0) (shapeByte (shapeOf t)) && wide (shapeOf t)
 
 all-in-column : allBelow inColumn 128 ≡ true
-unfolding groups member itemIn itemOf shapeOf columnFrom shapeColumn inColumn sameShape
+unfolding groups member itemIn itemOf shapeOf columnFrom shapeColumn inColumn wide
 all-in-column = refl
 
+pub byte-in-column : (t : ℕ) → t < 128 → getD shapeColumn t 0 ≡ shapeByte (shapeOf t)
+unfolding inColumn
+byte-in-column t h =
+    eqb-true _ _ (both-left (eqb (getD shapeColumn t 0) (shapeByte (shapeOf t))) _ (all-below inColumn 128 all-in-column t h))
+
+shape-wide : (t : ℕ) → t < 128 → wide (shapeOf t) ≡ true
+unfolding inColumn
+shape-wide t h = both-right (eqb (getD shapeColumn t 0) (shapeByte (shapeOf t))) _ (all-below inColumn 128 all-in-column t h)
+
+-- which of four tests passes
+byOne {ℓ} : {C : Type ℓ} (a b c d : Bool) → a || (b || (c || d)) ≡ true → (a ≡ true → C) → (b ≡ true → C) → (c ≡ true → C) → (d ≡ true → C) → C
+byOne true b c d e f g h i = f refl
+byOne false true c d e f g h i = g refl
+byOne false false true d e f g h i = h refl
+byOne false false false d e f g h i = i e
+
+by-wide {ℓ} : {C : Type ℓ} (w : ℕ) (m : Bool) → wide (Number w m) ≡ true → (w ≡ 1 → C) → (w ≡ 2 → C) → (w ≡ 4 → C) → (w ≡ 8 → C) → C
+unfolding wide
+by-wide w m e f g h i =
+    byOne (eqb w 1) (eqb w 2) (eqb w 4) (eqb w 8) e
+    (λ p. f (eqb-true w 1 p)) (λ p. g (eqb-true w 2 p)) (λ p. h (eqb-true w 4 p)) (λ p. i (eqb-true w 8 p))
+
+record Wide (w : ℕ) : Type 0 where
+  some : 1 ≤ w
+  few : w ≤ 8
+
+number-wide : (w : ℕ) (m : Bool) → wide (Number w m) ≡ true → Wide w
+number-wide w m e =
+    by-wide w m e
+    (λ p. record { some = omega arith; few = omega arith })
+    (λ p. record { some = omega arith; few = omega arith })
+    (λ p. record { some = omega arith; few = omega arith })
+    (λ p. record { some = omega arith; few = omega arith })
+
+-- what a byte of such a shape says
+record Says (s : Shape) : Type 0 where
+  small : shapeByte s < 256
+  width : shapeByte s % 16 ≡ shapeWidth s
+  shape : shapeFrom (shapeByte s) ≡ s
+
+says : (s : Shape) → wide s ≡ true → Says s
+says Text e = record { small = omega arith; width = refl; shape = refl }
+says (Number w true) e =
+    let n = number-wide w true e in
+    let k : (144 + w) / 16 % 8 ≡ 1 = omega (arith, n .few) in
+    let v : (144 + w) % 16 ≡ w = omega (arith, n .few) in
+    record {
+      small = omega (arith, n .few);
+      width = v;
+      shape = rw (k, v, le-leb 128 (144 + w) (omega arith));
+    }
+says (Number w false) e =
+    let n = number-wide w false e in
+    let k : (16 + w) / 16 % 8 ≡ 1 = omega (arith, n .few) in
+    let v : (16 + w) % 16 ≡ w = omega (arith, n .few) in
+    record {
+      small = omega (arith, n .few);
+      width = v;
+      shape = rw (k, v, lt-leb 128 (16 + w) (omega (arith, n .few)));
+    }
+says Absent e = record { small = omega arith; width = refl; shape = refl }
+
+pub byte-small : (t : ℕ) → t < 128 → getD shapeColumn t 0 < 256
+byte-small t h = rw (byte-in-column t h) (says (shapeOf t) (shape-wide t h) .small)
+
+pub width-in-column : (t : ℕ) → t < 128 → widthIn shapeColumn t ≡ shapeWidth (shapeOf t)
+unfolding widthIn
+width-in-column t h = rw (byte-in-column t h) (says (shapeOf t) (shape-wide t h) .width)
+
 pub shape-in-column : (t : ℕ) → shapeIn shapeColumn t ≡ shapeOf t
-unfolding shapeIn inColumn shapeOf
+unfolding shapeIn
 shape-in-column t =
     byLt t 128
-    (λ h. rw (lt-leb 128 t h) (same-shape _ _ (all-below inColumn 128 all-in-column t h)))
-    (λ h. rw (le-leb 128 t h, item-beyond t h))
+    (λ h. rw (lt-leb 128 t h, byte-in-column t h) (says (shapeOf t) (shape-wide t h) .shape))
+    (λ h. rw (le-leb 128 t h) (sym (shape-beyond t h)))
 
--- a byte of a number says its width
-pub byte-allows : (b n : ℕ) → b < 256 → (b ≡ 0 → ⊥) → (b ≡ 255 → ⊥) → eqb n (b % 128) ≡ shapeAllows (shapeFrom b) n
-byte-allows b n h some there =
-    byLt b 128
-    (λ k. let e : b % 128 ≡ b = omega arith in rw (ne-eqb b 255 there, ne-eqb b 0 some, lt-leb 128 b k, e))
-    (λ k. let e : b % 128 ≡ b - 128 = omega arith in rw (ne-eqb b 255 there, ne-eqb b 0 some, le-leb 128 b k, e))
+-- the width that the column has is 0, 1, 2, 4 or 8
+by-shape {ℓ} : {C : Type ℓ} (s : Shape) (v : ℕ) → wide s ≡ true → v ≡ shapeWidth s
+    → (v ≡ 0 → C) → (v ≡ 1 → C) → (v ≡ 2 → C) → (v ≡ 4 → C) → (v ≡ 8 → C) → C
+by-shape Text v e p none one two four eight = none p
+by-shape (Number w m) v e p none one two four eight =
+    by-wide w m e (λ q. one (p ∙ q)) (λ q. two (p ∙ q)) (λ q. four (p ∙ q)) (λ q. eight (p ∙ q))
+by-shape Absent v e p none one two four eight = none p
 
--- no number has more than eight bytes
-narrow : Shape → Bool
-narrow Text = true
-narrow (Number w m) = leb w 8
-narrow Absent = true
+pub by-width {ℓ} : {C : Type ℓ} (t : ℕ) → t < 128 → (widthIn shapeColumn t ≡ 0 → C) → (widthIn shapeColumn t ≡ 1 → C)
+    → (widthIn shapeColumn t ≡ 2 → C) → (widthIn shapeColumn t ≡ 4 → C) → (widthIn shapeColumn t ≡ 8 → C) → C
+by-width t h = by-shape (shapeOf t) (widthIn shapeColumn t) (shape-wide t h) (width-in-column t h)
 
-all-narrow : allBelow (λ t. narrow (shapeOf t)) 128 ≡ true
-unfolding groups member itemIn itemOf shapeOf narrow
-all-narrow = refl
+number-bytes : (t w : ℕ) (m : Bool) → shapeOf t ≡ Number w m → Wide w
+number-bytes t w m e =
+    byLt t 128
+    (λ h. number-wide w m (ap wide (sym e) ∙ shape-wide t h))
+    (λ h. let f : Shape.Absent ≡ Number w m = sym (shape-beyond t h) ∙ e in never (cc))
 
-unshape : (u : ℕ) → shapeBy (itemOf u) ≡ shapeOf u
-unfolding shapeOf
-unshape u = refl
+-- a number has at least one byte and at most eight
+pub number-some : (t w : ℕ) (m : Bool) → shapeOf t ≡ Number w m → 1 ≤ w
+number-some t w m e = number-bytes t w m e .some
 
 pub number-width : (t w : ℕ) (m : Bool) → shapeOf t ≡ Number w m → w ≤ 8
-unfolding narrow
-number-width t w m e =
-    byLt t 128
-    (λ h. leb-true w 8 (ap narrow (sym e) ∙ all-below (λ u. narrow (shapeOf u)) 128 all-narrow t h))
-    (λ h. let f : Shape.Absent ≡ Number w m = sym (ap shapeBy (item-beyond t h)) ∙ (unshape t ∙ e) in let z : _≡_ {A = ℕ} 0 1 = cc in absurd (omega arith))
+number-width t w m e = number-bytes t w m e .few
 
 -- an item whose codes are not limited takes every code
 either : (a b : Bool) → a || b ≡ false → (a ≡ false) × (b ≡ false)

@@ -234,17 +234,17 @@ pub fn item_of(tag: u64) -> Found
     Found::Absent
 }
 
-// A tag's shape as a byte: 0 for text, the width of a number, 0x80 more where it has a mark, 0xff for what is not in the table.
-// A line has sixteen tags, from 0 on.
+// A tag's shape as a byte: the width of a number in the low four bits, above them document 01's kind (1 a reading, 3 text, 4 carried, for
+// what is not in the table), 0x80 more where the number has a mark. A line has sixteen tags, from 0 on.
 const COLUMN: [u8; 128] = *b"\
-    \xff\x02\x08\x00\x00\x02\x82\x82\x01\x01\x00\x00\x00\x84\x84\x02\
-    \x02\x02\x04\x84\x04\x04\x02\x84\x84\x02\x82\x82\x82\x82\x82\x82\
-    \x82\x82\x01\x02\x01\x02\x02\x01\xff\xff\xff\xff\xff\xff\xff\xff\
-    \xff\xff\xff\xff\xff\xff\xff\x01\x01\x04\xff\x00\xff\xff\xff\x01\
-    \x02\x01\xff\x84\x84\xff\x00\x02\xff\xff\xff\x02\xff\xff\x02\x82\
-    \x82\xff\x84\x84\x84\x84\x84\x84\x84\x84\x84\x84\xff\xff\xff\xff\
-    \xff\xff\xff\xff\xff\xff\xff\xff\xff\xff\xff\xff\xff\xff\xff\xff\
-    \xff\xff\xff\xff\xff\xff\xff\xff\xff\xff\xff\xff\xff\xff\xff\xff\
+    \x40\x12\x18\x30\x30\x12\x92\x92\x11\x11\x30\x30\x30\x94\x94\x12\
+    \x12\x12\x14\x94\x14\x14\x12\x94\x94\x12\x92\x92\x92\x92\x92\x92\
+    \x92\x92\x11\x12\x11\x12\x12\x11\x40\x40\x40\x40\x40\x40\x40\x40\
+    \x40\x40\x40\x40\x40\x40\x40\x11\x11\x14\x40\x30\x40\x40\x40\x11\
+    \x12\x11\x40\x94\x94\x40\x30\x12\x40\x40\x40\x12\x40\x40\x12\x92\
+    \x92\x40\x94\x94\x94\x94\x94\x94\x94\x94\x94\x94\x40\x40\x40\x40\
+    \x40\x40\x40\x40\x40\x40\x40\x40\x40\x40\x40\x40\x40\x40\x40\x40\
+    \x40\x40\x40\x40\x40\x40\x40\x40\x40\x40\x40\x40\x40\x40\x40\x40\
 ";
 
 // The shapes of all tags below 128, named once at the top and lent to `shape_at`.
@@ -263,21 +263,16 @@ pub fn shape_at(column: &[u8; 128], tag: u64) -> Shape
     }
     let at = tag as usize;
     let byte = number::wide(column[at]);
-    if byte == 255 {
+    let kind = byte / 16 % 8;
+    if kind == 4 {
         return Shape::Absent;
     }
-    if byte == 0 {
+    if kind == 3 {
         return Shape::Text;
     }
-    if 128 <= byte {
-        return Shape::Number {
-            width: (byte - 128) as usize,
-            marked: true,
-        };
-    }
     Shape::Number {
-        width: byte as usize,
-        marked: false,
+        width: (byte % 16) as usize,
+        marked: 128 <= byte,
     }
 }
 
@@ -306,13 +301,14 @@ pub fn allows_length_at(column: &[u8; 128], tag: u64, n: usize) -> bool
     }
     let at = tag as usize;
     let byte = number::wide(column[at]);
-    if byte == 0 {
-        return allows_length(Shape::Text, n);
-    }
-    if byte == 255 {
+    let kind = byte / 16 % 8;
+    if kind == 4 {
         return false;
     }
-    n == (byte % 128) as usize
+    if kind == 3 {
+        return allows_length(Shape::Text, n);
+    }
+    n == (byte % 16) as usize
 }
 
 // Whether an item takes only some of its codes.

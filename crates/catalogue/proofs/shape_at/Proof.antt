@@ -26,13 +26,9 @@ returns-3 c = rw (← c .before .before .wide .ensures .0) (search cases)
 
 returns-4 : tie.Need-returns-4
 unfolding shapeIn
-returns-4 c = rw (← c .before .before .before .wide .ensures .0) (search cases)
-
-returns-5 : tie.Need-returns-5
-unfolding shapeIn
-returns-5 c = rw (← c .before .before .before .wide .ensures .0) (search cases)
+returns-4 c = rw (← c .before .before .wide .ensures .0) (search cases)
 
 pub shape-at-spec : {M : Type 1} → statement M
 shape-at-spec =
     tie.close
-    (tie.spec returns element-copy-out-wide wide-requires returns-2 returns-3 returns-4 returns-5)
+    (tie.spec returns element-copy-out-wide wide-requires returns-2 returns-3 returns-4)
