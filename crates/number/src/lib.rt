@@ -3,6 +3,7 @@
 ghost use mathlib.Core.Path.{_≡_};
 ghost use Prim.Native.Nat.{_+_, _*_, _%_, _^_, _<_, _≤_};
 ghost use lib.ListN.{length, getD, take, drop};
+ghost use Rattle.base.specs.Putting.{Wrote};
 ghost use Rattle.number.specs.Stored.{valueOf, bytesOf};
 
 // A byte as a number of 64 bits.
@@ -86,8 +87,32 @@ pub fn value(s: &[u8]) -> u64
     of_any_length(s)
 }
 
-// Fills the slice with the lowest bytes of a number.
-pub fn put(out: &mut [u8], x: u64)
+// The lowest byte of a number at a place, then two and four.
+fn put_byte(out: &mut [u8], at: usize, x: u64)
+    requires { ⌜ at + 1 ≤ length (now out) ⌝ }
+    ensures { λ _. ⌜ Wrote (now (out .entry)) at (bytesOf 1 x) (at + 1) (now (out .exit)) ⌝ }
+{
+    out[at] = (x % 256) as u8;
+}
+
+fn put_two(out: &mut [u8], at: usize, x: u64)
+    requires { ⌜ at + 2 ≤ length (now out) ⌝ }
+    ensures { λ _. ⌜ Wrote (now (out .entry)) at (bytesOf 2 x) (at + 2) (now (out .exit)) ⌝ }
+{
+    put_byte(out, at, x / 0x100);
+    put_byte(out, at + 1, x);
+}
+
+fn put_four(out: &mut [u8], at: usize, x: u64)
+    requires { ⌜ at + 4 ≤ length (now out) ⌝ }
+    ensures { λ _. ⌜ Wrote (now (out .entry)) at (bytesOf 4 x) (at + 4) (now (out .exit)) ⌝ }
+{
+    put_two(out, at, x / 0x1_0000);
+    put_two(out, at + 2, x);
+}
+
+// Fills a slice of any length, from its end.
+fn put_any_length(out: &mut [u8], x: u64)
     ensures { λ _. ⌜ now (out .exit) ≡ bytesOf (length (now (out .entry))) x ⌝ }
 {
     let mut left = x;
@@ -97,4 +122,23 @@ pub fn put(out: &mut [u8], x: u64)
         out[i] = (left % 256) as u8;
         left /= 256;
     }
+}
+
+// Fills the slice with the lowest bytes of a number, at once for the widths that the catalogue has.
+pub fn put(out: &mut [u8], x: u64)
+    ensures { λ _. ⌜ now (out .exit) ≡ bytesOf (length (now (out .entry))) x ⌝ }
+{
+    if out.len() == 2 {
+        put_two(out, 0, x);
+        return;
+    }
+    if out.len() == 4 {
+        put_four(out, 0, x);
+        return;
+    }
+    if out.len() == 1 {
+        put_byte(out, 0, x);
+        return;
+    }
+    put_any_length(out, x);
 }
