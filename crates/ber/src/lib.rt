@@ -2,6 +2,7 @@
 // Every slice and every place gets an answer; a tag has one form, a length is put in its shortest, and what was put reads back.
 ghost use mathlib.Core.Path.{_≡_};
 ghost use Prim.Native.Nat.{_<_};
+ghost use mathlib.Core.List.{[], _∷_};
 ghost use lib.ListN.{length, drop};
 ghost use Rattle.number.specs.Stored.{bytesOf};
 ghost use Rattle.ber.specs.Read.{readTag, tagSecond, tagThird, readLength};
@@ -183,6 +184,18 @@ fn put_form(out: &mut [u8], at: usize, form: Form) -> usize
     size
 }
 
+// Puts the one byte of a short tag or length, in the same way.
+fn put_short(out: &mut [u8], at: usize, x: u64) -> usize
+    requires { ⌜ x < 128 ⌝ }
+    ensures { λ r. ⌜ Puts (now (out .entry)) at (x ∷ []) r (now (out .exit)) ⌝ }
+{
+    if at < out.len() {
+        out[at] = x as u8;
+        return 1;
+    }
+    0
+}
+
 // How many bytes a tag takes: 0 where it has no form.
 pub fn tag_size(tag: u64) -> usize
     ensures { λ r. ⌜ r ≡ length (tagBytes tag) ⌝ }
@@ -201,6 +214,11 @@ pub fn length_size(x: u64) -> usize
 pub fn put_tag(out: &mut [u8], at: usize, tag: u64) -> usize
     ensures { λ r. ⌜ Puts (now (out .entry)) at (tagBytes tag) r (now (out .exit)) ⌝ }
 {
+    if 0 < tag {
+        if tag < 128 {
+            return put_short(out, at, tag);
+        }
+    }
     put_form(out, at, tag_form(tag))
 }
 
@@ -208,5 +226,8 @@ pub fn put_tag(out: &mut [u8], at: usize, tag: u64) -> usize
 pub fn put_length(out: &mut [u8], at: usize, x: u64) -> usize
     ensures { λ r. ⌜ Puts (now (out .entry)) at (lengthBytes x) r (now (out .exit)) ⌝ }
 {
+    if x < 128 {
+        return put_short(out, at, x);
+    }
     put_form(out, at, length_form(x))
 }

@@ -3,7 +3,7 @@
 use Prim.Native.Nat.{ℕ, zero, suc, _+_, _*_, _%_, _^_, _<_, _≤_}
 use native.Mathlib.Omega.{arith}
 use native.Mathlib.Nat.{zero-add, pow-suc}
-use mathlib.Core.Path.{_≡_, refl, ap, sym, _∙_}
+use mathlib.Core.Path.{_≡_, refl, ap, ap₂, sym, _∙_}
 use mathlib.Core.List.{List, [], _∷_}
 use lib.ListN.{length, getD, take, drop, length-drop}
 use lib.Seq.{take-all, drop-drop, length-take-le}
@@ -39,6 +39,11 @@ joined m n at s h =
 pub one-taken : (at : ℕ) (s : List ℕ) → at + 1 ≤ length s → valueOf (take 1 (drop at s)) ≡ getD s at 0
 unfolding valueFrom
 one-taken at s h = rw (cons-at s at (omega arith)) (omega arith)
+
+-- a byte more
+pub one-more : (n at : ℕ) (s : List ℕ) → at + n + 1 ≤ length s → {v r : ℕ} → v ≡ valueOf (take n (drop at s)) → r ≡ v * 256 + getD s (at + n) 0
+    → r ≡ valueOf (take (n + 1) (drop at s))
+one-more n at s h e f = f ∙ (ap₂ (λ x y. x * 256 + y) e (sym (one-taken (at + n) s (omega arith))) ∙ joined n 1 at s h)
 
 -- all of them
 pub all-taken : (n : ℕ) (s : List ℕ) → length s ≡ n → {x : ℕ} → x < 2 ^ 64 → x ≡ valueOf (take n s) → x ≡ valueOf s % 2 ^ 64

@@ -1,54 +1,59 @@
--- `number::put` meets its contract: from place i on stand the lowest bytes, and `left` is what is left of the number.
+-- `number::put` meets its contract.
 -- Assumes nothing.
-use native.Mathlib.Omega.{arith}
 use borrow.Author.Needs.{needs}
-use Rattle.base.proofs.Digits.{Filling, fill-start, fill-next, fill-done}
-use Rattle.number.specs.Stored.{bytesOf}
+use Rattle.number.proofs.Runs.{all-filled}
 use Rattle.number.proofs.put.Statement.{statement}
 use Rattle.number.proofs.put.Tie as tie
 
-abbrev Inv-loop : tie.InvT-loop
-Inv-loop out₀ x left₀ i₀ out left i = Filling 256 (λ d. d) out₀ x out left i
+put-two-requires : tie.Need-put-two-requires
+put-two-requires c κs = search needs
 
-abbrev μ-loop : tie.MeasureT-loop
-μ-loop out₀ x left₀ i₀ out left i = i
-
-loop-holds : tie.Need-loop-holds Inv-loop μ-loop
-loop-holds c = fill-start
-
-sub-i : tie.Need-sub-i Inv-loop μ-loop
-sub-i c = search needs
-
-cast-out : tie.Need-cast-out Inv-loop μ-loop
-cast-out c = search needs
-
-slice-write-out : tie.Need-slice-write-out Inv-loop μ-loop
-slice-write-out c = search needs
-
-loop-less : tie.Need-loop-less Inv-loop μ-loop
-loop-less c = search needs
-
-loop-again : tie.Need-loop-again Inv-loop μ-loop
-loop-again c = fill-next (c .before .loop .inv) (omega arith)
-
-same-length : tie.Need-same-length Inv-loop μ-loop
+same-length : tie.Need-same-length
 same-length c = search needs
 
-returns : tie.Need-returns Inv-loop μ-loop
-unfolding bytesOf
-returns c = fill-done (c .before .loop .inv) (omega arith)
+returns : tie.Need-returns
+returns c = all-filled 2 _ (c .before .before .before .before .if1 .taken) (c .before .before .put-two .ensures)
+
+put-four-requires : tie.Need-put-four-requires
+put-four-requires c κs = search needs
+
+same-length-2 : tie.Need-same-length-2
+same-length-2 c = search needs
+
+returns-2 : tie.Need-returns-2
+returns-2 c = all-filled 4 _ (c .before .before .before .before .if2 .taken) (c .before .before .put-four .ensures)
+
+put-byte-requires : tie.Need-put-byte-requires
+put-byte-requires c κs = search needs
+
+same-length-3 : tie.Need-same-length-3
+same-length-3 c = search needs
+
+returns-3 : tie.Need-returns-3
+returns-3 c = all-filled 1 _ (c .before .before .before .before .if3 .taken) (c .before .before .put-byte .ensures)
+
+put-any-length-requires : tie.Need-put-any-length-requires
+put-any-length-requires c κs = search needs
+
+same-length-4 : tie.Need-same-length-4
+same-length-4 c = search needs
+
+returns-4 : tie.Need-returns-4
+returns-4 c = search needs
 
 pub put-spec : {M : Type 1} → statement M
 put-spec =
     tie.close
     (tie.spec
-    Inv-loop
-    μ-loop
-    loop-holds
-    sub-i
-    cast-out
-    slice-write-out
-    loop-less
-    loop-again
+    put-two-requires
     same-length
-    returns)
+    returns
+    put-four-requires
+    same-length-2
+    returns-2
+    put-byte-requires
+    same-length-3
+    returns-3
+    put-any-length-requires
+    same-length-4
+    returns-4)

@@ -1,10 +1,9 @@
 -- `number::value` meets its contract.
 -- Assumes nothing.
-use Prim.Native.Nat.{_+_, _*_}
 use native.Mathlib.Omega.{arith}
-use mathlib.Core.Path.{ap₂, sym, _∙_}
+use mathlib.Core.Path.{sym, _∙_}
 use borrow.Author.Needs.{needs}
-use Rattle.number.proofs.Widths.{one-taken, joined, all-taken}
+use Rattle.number.proofs.Widths.{one-taken, all-taken}
 use Rattle.number.proofs.value.Statement.{statement}
 use Rattle.number.proofs.value.Tie as tie
 
@@ -31,23 +30,11 @@ returns-3 c =
     let s = c .before .before .before .before .before .before .args .s .now in
     all-taken 1 s (c .before .before .if3 .taken) (omega arith) (c .wide .ensures .0 ∙ sym (one-taken 0 s (omega arith)))
 
-four-at-requires-2 : tie.Need-four-at-requires-2
-four-at-requires-2 c κs = search needs
-
-four-at-requires-3 : tie.Need-four-at-requires-3
-four-at-requires-3 c κs = search needs
-
-mul-result : tie.Need-mul-result
-mul-result c = search needs
-
-add-result : tie.Need-add-result
-add-result c = search needs
+eight-at-requires : tie.Need-eight-at-requires
+eight-at-requires c κs = search needs
 
 returns-4 : tie.Need-returns-4
-returns-4 c =
-    let s = c .before .before .before .before .before .before .before .args .s .now in
-    let both = ap₂ (λ x y. x * 0x100000000 + y) (c .before .four-at2 .ensures .0) (c .four-at3 .ensures .0) in
-    all-taken 8 s (c .before .before .if4 .taken) (omega arith) (both ∙ joined 4 4 0 s (omega arith))
+returns-4 c = all-taken 8 _ (c .before .if4 .taken) (omega arith) (c .eight-at .ensures .0)
 
 of-any-length-requires : tie.Need-of-any-length-requires
 of-any-length-requires c κs = search needs
@@ -66,10 +53,7 @@ value-spec =
     shared-slice-read-wide
     wide-requires
     returns-3
-    four-at-requires-2
-    four-at-requires-3
-    mul-result
-    add-result
+    eight-at-requires
     returns-4
     of-any-length-requires
     returns-5)
