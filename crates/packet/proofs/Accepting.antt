@@ -21,7 +21,7 @@ use Rattle.packet.specs.Structure.{frame, endsOf, lastSum, closed, struc
 use Rattle.packet.specs.Judge.{Knowing, among, Fault, clean, wrong, faultOf, Judged, fine, faulty, noVersion, later, onFault, judgeFrom, judge}
 use Rattle.packet.specs.Verdict.{startOf, placed, judged, verdict, received}
 use Rattle.packet.proofs.Frames.{too-long}
-use Rattle.packet.proofs.Tallies.{walked, first-start}
+use Rattle.packet.proofs.Walked.{walked, first-start}
 
 -- where the items begin, once they are found and closed
 module _ (p : List ℕ) (by : Bytes p) where

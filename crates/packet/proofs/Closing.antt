@@ -3,22 +3,21 @@
 use Prim.Native.Nat.{ℕ, _+_, _-_, _%_, _^_, _<_, _≤_}
 use native.Mathlib.Omega.{arith}
 use mathlib.Core.Path.{_≡_}
-use mathlib.Core.Bool.{_&&_}
+use mathlib.Core.Bool.{cond, _&&_}
 use mathlib.Core.List.{List}
 use lib.Dec.{eqb}
 use lib.ListN.{length, take, drop, length-take, length-drop}
-use borrow.Author.Tests.{eqb-true, eq-eqb, ne-eqb}
+use borrow.Author.Tests.{eqb-true, eq-eqb}
 use Rattle.base.proofs.Every.{both-left, both-right}
 use Rattle.refusal.specs.Answer.{given, refused}
 use Rattle.refusal.proofs.Answers.{passed}
 use Rattle.number.specs.Stored.{Bytes, valueOf}
 use Rattle.number.proofs.Laws.{bytes-take, bytes-drop, value-small}
-use Rattle.checksum.specs.Sum.{checksumOf}
 use Rattle.packet.specs.Ends.{rightEnds}
 use Rattle.packet.specs.Structure.{rightSum}
-use Rattle.packet.specs.code.Concluded.{sumBy}
-use Rattle.packet.specs.declared.Header.{Header}
+use Rattle.packet.specs.code.Concluded.{endsBy, summedAt, closedBy}
 use Rattle.packet.specs.declared.Ends.{Ends}
+use Rattle.packet.specs.declared.Header.{Header}
 
 -- what right ends are
 pub record RightEnds (e : Ends) : Type 0 where
@@ -52,12 +51,12 @@ two-bytes p place by inside v e =
     let f : v ≡ valueOf l % 2 ^ 64 = rw k at e in
     omega arith
 
--- the sum by two bytes that the code has read
-module _ (p : List ℕ) (z : Header) (s : z .size ≡ 2) (v sum : ℕ) (e : v ≡ valueOf (take 2 (drop (z .place) p))) (f : sum ≡ checksumOf (take (z .place) p)) where
-  pub sum-right : v ≡ sum → sumBy p z ≡ given tt
-  unfolding rightSum
-  sum-right g = rw (s, ← e, ← f, eq-eqb v sum g)
+-- first, last and sum, once first and last are right
+module _ (p : List ℕ) (from : ℕ) (z : Header) where
+  pub closed-ends : (n a t : ℕ) → rightEnds (endsBy p from z) ≡ refused n a t → closedBy p from z ≡ refused n a t
+  unfolding closedBy
+  closed-ends n a t e = rw e
 
-  pub sum-wrong : (v ≡ sum → ⊥) → sumBy p z ≡ refused 11 (z .place) 1
-  unfolding rightSum
-  sum-wrong g = rw (s, ← e, ← f, ne-eqb v sum g)
+  pub closed-sum : rightEnds (endsBy p from z) ≡ given tt → closedBy p from z ≡ cond (summedAt p (z .place)) (given tt) (refused 11 (z .place) 1)
+  unfolding closedBy rightSum
+  closed-sum e = rw (e, ends-right (endsBy p from z) e .pair)

@@ -22,6 +22,8 @@ use Rattle.packet.proofs.check_ends.Kinds as check-ends-kinds
 use Rattle.packet.proofs.check_ends.Reads as check-ends-reads
 use Rattle.packet.proofs.check.Kinds as check-kinds
 use Rattle.packet.proofs.check.Reads as check-reads
+use Rattle.packet.proofs.locate.Kinds as locate-kinds
+use Rattle.packet.proofs.locate.Reads as locate-reads
 
 step-apart : (a b : Step) → stepSaid a ≡ stepSaid b → a ≡ b
 step-apart (step.Item g) (step.Item h) e = cc
@@ -58,3 +60,9 @@ check-ends-determined κs a z z′ e e′ p q = right-apart z z′ (p ∙ sym q)
 
 pub check-determined : Answered 1 check-kinds.ps check-kinds.r check-reads.Post
 check-determined κs a z z′ e e′ p q = check-apart z z′ (p ∙ sym q)
+
+pub locate-determined : Answered 1 locate-kinds.ps locate-kinds.r locate-reads.Post
+locate-determined κs a z z′ e e′ p q =
+    let f = check-apart (z .answer) (z′ .answer) (p .says ∙ sym (q .says)) in
+    let g = p .places ∙ sym (q .places) in
+    λ k. record { answer = f k; past = g k }

@@ -15,12 +15,13 @@ use Rattle.refusal.specs.Answer.{Answer, given, refused}
 use Rattle.number.specs.Stored.{Bytes}
 use Rattle.number.proofs.Laws.{bytes-drop}
 use Rattle.ber.specs.Read.{Read, got, broken, readTag, readLength}
-use Rattle.ber.proofs.Laws.{tag-read}
+use Rattle.ber.specs.Written.{tagBytes, lengthBytes}
+use Rattle.ber.proofs.Laws.{TagRead, tag-read, length-read}
 use Rattle.tagset.specs.declared.TagSet.{TagSet}
 use Rattle.packet.specs.Pieces.{Item, Step, noTag, noLength, one, afterLength, afterTag, readItem, before, onward, walk}
 use Rattle.packet.specs.code.Headers.{headerOf, itemBy}
 use Rattle.packet.specs.Said.{headerBy, headerAt}
-use Rattle.packet.specs.code.Tally.{Tally, faultIn, withHeader, tallyFrom, tallied}
+use Rattle.packet.specs.code.Passing.{Kept, shortest, withHeader, keptFrom, kept}
 use Rattle.packet.specs.declared.Header.{Header}
 
 module _ (p : List ℕ) (here : ℕ) where
@@ -67,28 +68,31 @@ module _ (p : List ℕ) (here : ℕ) where
   pub record Lies (i : Header) : Type 0 where
     pub on : here < i .place + i .size
     pub inside : i .place + i .size ≤ length p
+    pub formed : i .start + shortest i ≤ i .place
 
   pub header-lies : Bytes p → (i : Header) → headerAt p here ≡ given i → Lies i
   unfolding headerAt readItem
   header-lies by i e = by-tag (readTag (drop here p)) refl e
     where
-      past : (t s n k : ℕ) → 0 < s → headerBy here (afterLength (length (drop here p)) t s (got n k)) ≡ given i → Lies i
-      past t s n k some e =
+      past : (t s n k : ℕ) → 0 < s → length (tagBytes t) + length (lengthBytes n) ≤ s + k
+          → headerBy here (afterLength (length (drop here p)) t s (got n k)) ≡ given i → Lies i
+      past t s n k some short e =
           byBool (leb (s + k + n) (length (drop here p)))
           (λ b. let f : given (record { tag = t; start = here; place = here + (s + k); size = n }) ≡ given i = rw b at e in
           let g : record { tag = t; start = here; place = here + (s + k); size = n } ≡ i = cc in
           let m : s + k + n ≤ length p - here = rw length-drop at (leb-true (s + k + n) (length (drop here p)) b) in
-          rw (← g) (record { on = omega arith; inside = omega arith }))
+          rw (← g) (record { on = omega arith; inside = omega arith; formed = omega arith }))
           (λ b. let f : refused 8 here t ≡ given i = rw b at e in let z : _≡_ {A = ℕ} 0 1 = cc in absurd (omega arith))
 
-      by-length : (t s : ℕ) → 0 < s → (r : Read) → headerBy here (afterLength (length (drop here p)) t s r) ≡ given i → Lies i
-      by-length t s some broken e = let z : _≡_ {A = ℕ} 0 1 = cc in absurd (omega arith)
-      by-length t s some (got n k) e = past t s n k some e
+      by-length : (t s : ℕ) → TagRead (drop here p) t s → (r : Read) → readLength (drop s (drop here p)) ≡ r
+          → headerBy here (afterLength (length (drop here p)) t s r) ≡ given i → Lies i
+      by-length t s tag broken q e = let z : _≡_ {A = ℕ} 0 1 = cc in absurd (omega arith)
+      by-length t s tag (got n k) q e =
+          past t s n k (tag .takes) (omega (arith, tag .size, length-read _ n k (bytes-drop s (bytes-drop here by)) q .shortest)) e
 
       by-tag : (r : Read) → readTag (drop here p) ≡ r → headerBy here (afterTag (drop here p) r) ≡ given i → Lies i
       by-tag broken q e = let z : _≡_ {A = ℕ} 0 1 = cc in absurd (omega arith)
-      by-tag (got t s) q e =
-          by-length t s (tag-read (drop here p) t s (bytes-drop here by) q .takes) (readLength (drop s (drop here p))) e
+      by-tag (got t s) q e = by-length t s (tag-read (drop here p) t s (bytes-drop here by) q) (readLength (drop s (drop here p))) refl e
 
 -- the header of the item that a header stands for
 pub header-back : (p : List ℕ) (i : Header) → i .place + i .size ≤ length p → headerOf (itemBy p i) ≡ i
@@ -96,12 +100,11 @@ header-back p i h =
     let e : length (take (i .size) (drop (i .place) p)) ≡ i .size = rw (length-take, length-drop) (omega arith) in
     λ k. record { tag = i .tag; start = i .start; place = i .place; size = e k }
 
-pub tallied-before : (K : TagSet) (T : Tally) (i : Item) (w : Answer (List Item))
-    → tallied K T (before i w) ≡ tallied K (withHeader T (headerOf i) (faultIn K (T .seen) i)) w
-unfolding tallyFrom
-tallied-before K T i (given is) = refl
-tallied-before K T i (refused n p t) = refl
+pub kept-before : (K : TagSet) (k : Kept) (i : Item) (w : Answer (List Item)) → kept K k (before i w) ≡ kept K (withHeader K k (headerOf i)) w
+unfolding keptFrom
+kept-before K k i (given is) = refl
+kept-before K k i (refused n p t) = refl
 
-pub tallied-none : (K : TagSet) (T : Tally) → tallied K T (given []) ≡ given T
-unfolding tallyFrom
-tallied-none K T = refl
+pub kept-none : (K : TagSet) (k : Kept) → kept K k (given []) ≡ given k
+unfolding keptFrom
+kept-none K k = refl

@@ -1,6 +1,6 @@
 -- The bytes that a list of pieces is written as: "Row order is kept, lengths take their shortest form, the checksum is
 -- worked out afresh".
-use Prim.Native.Nat.{ℕ, _-_}
+use Prim.Native.Nat.{ℕ, _+_, _-_}
 use mathlib.Core.List.{List, [], _∷_, _++_}
 use lib.ListN.{length, take}
 use Rattle.refusal.specs.Answer.{Answer, orElse}
@@ -13,6 +13,15 @@ use Rattle.packet.specs.Structure.{key, structure}
 -- "tag, length, value"
 unfoldable pub itemBytes : Piece → List ℕ
 itemBytes c = tagBytes (c .tag) ++ (lengthBytes (length (c .value)) ++ c .value)
+
+-- by how many bytes what stands before an item's value is longer than there, and all items together: "A long form that could be shorter
+-- is accepted."
+abbrev pub longerBy : Item → ℕ
+longerBy i = i .place - i .start - length (tagBytes (i .piece .tag)) - length (lengthBytes (length (i .piece .value)))
+
+unfoldable pub longerOf : List Item → ℕ
+longerOf [] = 0
+longerOf (i ∷ is) = longerBy i + longerOf is
 
 unfoldable pub itemsBytes : List Piece → List ℕ
 itemsBytes [] = []

@@ -1,15 +1,20 @@
 -- What a receiver answers of a packet: the items, or the first refusal in document 01's order.
-use Prim.Native.Nat.{ℕ, zero, suc}
+use Prim.Native.Nat.{ℕ, zero, suc, _+_}
+use mathlib.Core.Path.{_≡_}
 use mathlib.Core.Bool.{cond}
 use mathlib.Core.List.{List, [], _∷_}
-use lib.ListN.{length}
-use Rattle.refusal.specs.Answer.{Answer, given, refused, map, then}
+use lib.Dec.{ltb}
+use lib.ListN.{length, set, replicate}
+use Rattle.refusal.specs.Answer.{Answer, given, refused, map, then, orElse}
 use Rattle.tagset.specs.Sets.{holds}
 use Rattle.tagset.specs.declared.TagSet.{TagSet}
 use Rattle.knowing.specs.Good.{good}
 use Rattle.packet.specs.declared.Accepted.{Accepted}
+use Rattle.packet.specs.declared.Located.{Located}
+use Rattle.packet.specs.Said.{checkSaid}
 use Rattle.packet.specs.Pieces.{Item, pieces}
 use Rattle.packet.specs.Structure.{structure}
+use Rattle.packet.specs.Encode.{longerOf}
 use Rattle.packet.specs.Judge.{Knowing, Judged, fine, faulty, noVersion, judge}
 
 -- where the item at an index starts
@@ -33,9 +38,25 @@ verdict K p = then (structure p) (judged K)
 unfoldable pub received : TagSet → List ℕ → Answer (List Item)
 received K p = cond (good K) (verdict (holds K) p) (refused 1 0 0)
 
--- where the items begin, and how many there are
+-- where the items begin, how many there are, and by how many bytes their lengths are longer than in their shortest forms
 abbrev pub bodyOf : List Item → Accepted
-bodyOf is = record { from = startOf 0 is; count = length is }
+bodyOf is = record { from = startOf 0 is; count = length is; longer = longerOf is }
 
 unfoldable pub checked : TagSet → List ℕ → Answer Accepted
 checked K p = map bodyOf (received K p)
+
+-- for each tag below 128 the place past its last item, 0 where there is none; and at 0 that of the tags from 128 on
+abbrev pub oneByte : ℕ → ℕ
+oneByte x = cond (ltb x 128) x 0
+
+unfoldable pub pastFrom : List ℕ → List Item → List ℕ
+pastFrom l [] = l
+pastFrom l (i ∷ is) = pastFrom (set l (oneByte (i .piece .tag)) (i .place + length (i .piece .value))) is
+
+abbrev pub noPast : List ℕ
+noPast = replicate 128 0
+
+-- after a refusal there are none
+pub record Locates (K : TagSet) (p : List ℕ) (r : Located) : Type 0 where
+  pub says : checkSaid (r .answer) ≡ checked K p
+  pub places : r .past ≡ orElse noPast (pastFrom noPast) (received K p)

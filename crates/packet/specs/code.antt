@@ -1,3 +1,3 @@
 pub mod Headers
-pub mod Tally
+pub mod Passing
 pub mod Concluded

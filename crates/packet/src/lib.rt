@@ -1,23 +1,22 @@
 // A packet checked: structure, then what the receiver knows of its items, in one walk.
 // A packet is accepted exactly when document 01 allows it, and is refused by the first refusal in its order.
 ghost use mathlib.Core.Path.{_≡_};
-ghost use Prim.Native.Nat.{_+_, _≤_};
-ghost use lib.Dec.{eqb};
-ghost use lib.ListN.{length, take, drop};
-ghost use mathlib.Core.Bool.{cond};
+ghost use Prim.Native.Nat.{_+_, _-_, _<_, _≤_};
+ghost use lib.ListN.{length, take, drop, getD};
 ghost use Rattle.refusal.specs.Numbers.{number};
-ghost use Rattle.refusal.specs.Answer.{refused as refusedBy};
-ghost use Rattle.packet.specs.Judge.{faultBy};
+ghost use Rattle.refusal.specs.Answer.{refused as refusedBy, refusal as refusalOf};
+ghost use Rattle.tagset.specs.Sets.{holds, knowing};
 ghost use Rattle.catalogue.specs.code.Column.{shapeColumn};
-ghost use Rattle.packet.specs.code.Headers.{itemBy, shortForms};
-ghost use Rattle.packet.specs.Said.{stepSaid, headerAt, faultSaid};
+ghost use Rattle.packet.specs.Judge.{faultBy, faultOf};
+ghost use Rattle.packet.specs.Said.{stepSaid, headerAt, faultSaid, rightSaid, checkSaid};
 ghost use Rattle.packet.specs.Pieces.{walk as walkItems};
 ghost use Rattle.packet.specs.Ends.{rightEnds};
 ghost use Rattle.packet.specs.Structure.{key, same, frame};
-ghost use Rattle.packet.specs.code.Concluded.{frameSaid, judgement, endsBy, lastBy, concluded, walkedBy};
-ghost use Rattle.packet.specs.Said.{rightSaid, checkSaid};
-ghost use Rattle.packet.specs.Verdict.{checked};
-ghost use Rattle.packet.specs.code.Tally.{faultIn, plainIn, firstFault, firstSaid, withHeader, fresh, tallied, tallySaid, walkSaid};
+ghost use Rattle.packet.specs.Verdict.{oneByte, checked, Locates};
+ghost use Rattle.packet.specs.code.Headers.{itemBy, shortForms};
+ghost use Rattle.packet.specs.code.Passing.{longerIn, shortest, Glances, TwoWords, looksWrong, Passes, Stops};
+ghost use Rattle.packet.specs.code.Concluded.{frameSaid, WalksFrom, judgedFrom, headerIn, endsBy, summedAt, closedBy, codedIn, cleanIn};
+ghost use Rattle.packet.specs.code.Concluded.{begunBy, PastIn, Whole, rightFrom, Begins, ChecksFrom};
 use catalogue::Shape;
 use refusal::Reason;
 use refusal::Refusal;
@@ -154,30 +153,10 @@ pub fn fault_of(item: Looked) -> Fault
     Fault::Wrong(Reason::LengthNotAllowed)
 }
 
-// The first fault that a walk has met.
-enum First {
-    None,
-    At(Refusal),
-}
-
-// What a walk keeps of the items that it has passed: how many, the first one's tag, the last one, the tags seen, the first fault.
-struct Tally {
-    count: usize,
-    first: u64,
-    last: Header,
-    seen: TagSet,
-    fault: First,
-}
-
-enum Walk {
-    Whole(Tally),
-    Refused(Refusal),
-}
-
 // What is wrong with an item for a receiver: nothing where it does not know the tag.
 fn fault_at(packet: &[u8], column: &[u8; 128], known: TagSet, seen: TagSet, item: Header) -> Fault
     requires { ⌜ (now column ≡ shapeColumn) × (item .place + item .size ≤ length (now packet)) ⌝ }
-    ensures { λ r. ⌜ faultSaid r ≡ faultIn known seen (itemBy (now (packet .entry)) item) ⌝ }
+    ensures { λ r. ⌜ faultSaid r ≡ faultOf (holds known) (holds seen) (itemBy (now (packet .entry)) item .piece) ⌝ }
 {
     let tag = item.tag;
     let size = item.size;
@@ -208,115 +187,199 @@ fn fault_at(packet: &[u8], column: &[u8; 128], known: TagSet, seen: TagSet, item
     Fault::Clean
 }
 
-// Whether an item is clean at a glance, as most are; where it is not, `fault_at` says what is wrong, if anything is.
-fn is_plain(column: &[u8; 128], known: TagSet, seen: TagSet, item: Header) -> bool
-    requires { ⌜ now column ≡ shapeColumn ⌝ }
-    ensures { λ r. ⌜ r ≡ plainIn known seen (item .tag) (item .size) ⌝ }
-{
-    let tag = item.tag;
-    if tagset::has(known, tag) {
-        if tagset::has(seen, tag) {
-            return false;
-        }
-        if catalogue::limits_codes(tag) {
-            return false;
-        }
-        return catalogue::allows_length_at(column, tag, item.size);
-    }
-    true
+// Whether something is right, or the refusal.
+pub enum Right {
+    Yes,
+    Refused(Refusal),
 }
 
-// The fault met first stays.
-fn first_fault(met: First, fault: Fault, item: Header) -> First
-    ensures { λ r. ⌜ firstSaid r ≡ firstFault (firstSaid met) (faultSaid fault) (item .start) (item .tag) ⌝ }
+// Item by item the faults of known items, then item 65: the exact walk, of a packet whose structure is right.
+fn judged(packet: &[u8], from: usize, known: TagSet) -> Right
+    requires { ⌜ WalksFrom (now packet) from ⌝ }
+    ensures { λ r. ⌜ rightSaid r ≡ judgedFrom known (now (packet .entry)) from ⌝ }
 {
-    match fault {
-        Fault::Clean => met,
-        Fault::Wrong(reason) => match met {
-            First::At(_) => met,
-            First::None => First::At(Refusal {
-                reason,
-                place: item.start,
-                tag: item.tag,
-            }),
-        },
-    }
-}
-
-fn first_tag(count: usize, first: u64, tag: u64) -> u64
-    ensures { λ r. ⌜ r ≡ cond (eqb count 0) tag first ⌝ }
-{
-    if count == 0 {
-        return tag;
-    }
-    first
-}
-
-fn with_item(tally: Tally, item: Header, fault: Fault) -> Tally
-    requires { ⌜ tally .count ≤ 128 ⌝ }
-    ensures { λ r. ⌜ tallySaid r ≡ withHeader (tallySaid tally) item (faultSaid fault) ⌝ }
-{
-    let met = tally.fault;
-    let count = tally.count;
-    Tally {
-        count: count + 1,
-        first: first_tag(count, tally.first, item.tag),
-        last: item,
-        seen: tagset::with_tag(tally.seen, item.tag),
-        fault: first_fault(met, fault, item),
-    }
-}
-
-fn fresh_tally() -> Tally
-    ensures { λ r. ⌜ tallySaid r ≡ fresh ⌝ }
-{
-    Tally {
-        count: 0,
-        first: 0,
-        last: Header {
-            tag: 0,
-            start: 0,
-            place: 0,
-            size: 0,
-        },
-        seen: TagSet { low: 0, high: 0 },
-        fault: First::None,
-    }
-}
-
-// All items from a place to the packet's end, at most 128 of them.
-fn walk_from(packet: &[u8], from: usize, column: &[u8; 128], known: TagSet) -> Walk
-    requires { ⌜ now column ≡ shapeColumn ⌝ }
-    ensures { λ r. ⌜ walkSaid r ≡ tallied known fresh (walkItems 128 from (drop from (now (packet .entry)))) ⌝ }
-{
+    let column = catalogue::shapes();
+    let mut seen = TagSet { low: 0, high: 0 };
     let mut here = from;
-    let mut tally = fresh_tally();
     while here < packet.len() {
-        let count = tally.count;
-        if count == 128 {
-            return Walk::Refused(Refusal {
-                reason: Reason::TooManyItems,
-                place: here,
-                tag: 0,
-            });
-        }
         match item_at(packet, here) {
             Step::Refused(refusal) => {
-                return Walk::Refused(refusal);
+                return Right::Refused(refusal);
             }
-            Step::Item(item) => {
-                let seen = tally.seen;
-                if is_plain(column, known, seen, item) {
-                    tally = with_item(tally, item, Fault::Clean);
-                } else {
-                    let fault = fault_at(packet, column, known, seen, item);
-                    tally = with_item(tally, item, fault);
+            Step::Item(item) => match fault_at(packet, &column, known, seen, item) {
+                Fault::Wrong(reason) => {
+                    return Right::Refused(Refusal {
+                        reason,
+                        place: here,
+                        tag: item.tag,
+                    });
                 }
-                here = item.place + item.size;
-            }
+                Fault::Clean => {
+                    seen = tagset::with_tag(seen, item.tag);
+                    here = item.place + item.size;
+                }
+            },
         }
     }
-    Walk::Whole(tally)
+    if tagset::has(seen, 65) {
+        return Right::Yes;
+    }
+    Right::Refused(Refusal {
+        reason: Reason::VersionMissing,
+        place: 0,
+        tag: 0,
+    })
+}
+
+// An item at a glance: its tag and its length where one byte says them, else 0, which no tag is and no known item's length; the place
+// past it, which is past the packet where there is no item; by how many bytes its length is longer than in its shortest form.
+struct Glance {
+    tag: usize,
+    size: usize,
+    past: usize,
+    longer: usize,
+}
+
+fn one_byte(x: u64) -> usize
+    ensures { λ r. ⌜ r ≡ oneByte x ⌝ }
+{
+    if x < 128 {
+        return x as usize;
+    }
+    0
+}
+
+// How many bytes stand before a value beyond those that it needs.
+fn longer_by(item: Header) -> usize
+    requires { ⌜ item .start + shortest item ≤ item .place ⌝ }
+    ensures { λ r. ⌜ r ≡ longerIn item ⌝ }
+{
+    item.place - item.start - ber::tag_size(item.tag) - ber::length_size(item.size as u64)
+}
+
+// Any item at a glance.
+fn any_glance_at(packet: &[u8], at: usize) -> Glance
+    ensures { λ r. ⌜ Glances (now (packet .entry)) at r ⌝ }
+{
+    match any_item_at(packet, at) {
+        Step::Refused(_) => Glance {
+            tag: 0,
+            size: 0,
+            past: packet.len() + 1,
+            longer: 0,
+        },
+        Step::Item(item) => Glance {
+            tag: one_byte(item.tag),
+            size: one_byte(item.size as u64),
+            past: item.place + item.size,
+            longer: longer_by(item),
+        },
+    }
+}
+
+// Most items have a tag and a length of one byte each.
+fn glance_at(packet: &[u8], at: usize) -> Glance
+    requires { ⌜ 2 ≤ length (now packet) ⌝ }
+    ensures { λ r. ⌜ Glances (now (packet .entry)) at r ⌝ }
+{
+    if packet.len() - 2 < at {
+        return any_glance_at(packet, at);
+    }
+    let after = at + 1;
+    let tag = packet[at] as usize;
+    let size = packet[after] as usize;
+    if 128 <= (packet[at] | packet[after]) {
+        return any_glance_at(packet, at);
+    }
+    if tag == 0 {
+        return any_glance_at(packet, at);
+    }
+    Glance {
+        tag,
+        size,
+        past: after + 1 + size,
+        longer: 0,
+    }
+}
+
+// Whether a set holds a tag, its two words side by side: without a branch.
+fn knows(words: &[u64; 2], tag: usize) -> bool
+    requires { ⌜ TwoWords (now words) × (tag < 128) ⌝ }
+    ensures { λ r. ⌜ r ≡ holds (knowing (getD (now (words .entry)) 0 0) (getD (now (words .entry)) 1 0)) tag ⌝ }
+{
+    (words[tag / 64] >> (tag % 64)) & 1 == 1
+}
+
+// Whether a known item looks wrong, by its length or because its tag came before: without a branch. A text has the width 0.
+fn looks_wrong(column: &[u8; 128], words: &[u64; 2], past: &[u16; 128], item: Glance) -> bool
+    requires { ⌜ (now column ≡ shapeColumn) × TwoWords (now words) × (item .tag < 128) ⌝ }
+    ensures { λ r. ⌜ r ≡ looksWrong (knowing (getD (now (words .entry)) 0 0) (getD (now (words .entry)) 1 0)) (now (past .entry)) item ⌝ }
+{
+    let tag = item.tag;
+    let width = (column[tag] & 15) as usize;
+    let unfit = (item.size == width) == (width == 0);
+    let twice = past[tag] != 0;
+    knows(words, tag) & (unfit | twice)
+}
+
+// What a walk keeps of the items that it has passed: where it stands, how many they are, where the last one starts, by how many bytes
+// their lengths are longer than in their shortest forms, and whether one looked wrong.
+struct Passed {
+    here: usize,
+    count: usize,
+    last: usize,
+    longer: usize,
+    wrong: bool,
+}
+
+// All items from a place to the packet's end, at most 128 of them, without a branch for what an item is; and for each tag the place past its last item.
+fn pass(packet: &[u8], from: usize, known: TagSet, past: &mut [u16; 128]) -> Passed
+    requires { ⌜ (2 ≤ length (now packet)) × (length (now packet) ≤ 8192) × (from ≤ length (now packet)) ⌝ }
+    ensures { λ r. ⌜ Passes known (now (packet .entry)) from (now (past .entry)) r (now (past .exit)) ⌝ }
+{
+    let column = catalogue::shapes();
+    let words = [known.low, known.high];
+    let mut here = from;
+    let mut count: usize = 0;
+    let mut last = from;
+    let mut longer: usize = 0;
+    let mut wrong = false;
+    while here < packet.len() {
+        if count == 128 {
+            return Passed {
+                here,
+                count,
+                last,
+                longer,
+                wrong,
+            };
+        }
+        let item = glance_at(packet, here);
+        let tag = item.tag;
+        let end = item.past;
+        if packet.len() < end {
+            return Passed {
+                here,
+                count,
+                last,
+                longer,
+                wrong,
+            };
+        }
+        wrong = wrong | looks_wrong(&column, &words, past, item);
+        past[tag] = end as u16;
+        count += 1;
+        last = here;
+        longer += item.longer;
+        here = end;
+    }
+    Passed {
+        here,
+        count,
+        last,
+        longer,
+        wrong,
+    }
 }
 
 fn has_key(packet: &[u8]) -> bool
@@ -368,40 +431,16 @@ fn framed(packet: &[u8]) -> Frame
     unframed(Reason::KeyDiffers, 0)
 }
 
-// An accepted packet: where its items begin, and how many there are.
+// An accepted packet: where its items begin, how many there are, and by how many bytes their forms are longer than the shortest.
 pub struct Accepted {
     pub from: usize,
     pub count: usize,
+    pub longer: usize,
 }
 
 pub enum Checked {
     Accepted(Accepted),
     Refused(Refusal),
-}
-
-fn refused(reason: Reason, place: usize, tag: u64) -> Checked
-    ensures { λ r. ⌜ checkSaid r ≡ refusedBy (number reason) place tag ⌝ }
-{
-    Checked::Refused(Refusal { reason, place, tag })
-}
-
-// The first fault of a known item, then item 65.
-fn judged(from: usize, tally: Tally) -> Checked
-    ensures { λ r. ⌜ checkSaid r ≡ judgement from (tallySaid tally) ⌝ }
-{
-    let fault = tally.fault;
-    match fault {
-        First::At(refusal) => Checked::Refused(refusal),
-        First::None => {
-            if tagset::has(tally.seen, 65) {
-                return Checked::Accepted(Accepted {
-                    from,
-                    count: tally.count,
-                });
-            }
-            refused(Reason::VersionMissing, 0, 0)
-        }
-    }
 }
 
 // The first and the last of the items or rows: where each is said to stand, its tag, and the last one's length.
@@ -411,12 +450,6 @@ pub struct Ends {
     pub end: usize,
     pub last: u64,
     pub size: usize,
-}
-
-// Whether something is right, or the refusal.
-pub enum Right {
-    Yes,
-    Refused(Refusal),
 }
 
 // The rule for first and last, for reader and writer alike.
@@ -442,71 +475,214 @@ pub fn check_ends(ends: Ends) -> Right
     })
 }
 
-// Where there is no item, the first one is said to be absent at the packet's end.
-fn ends_of(bytes: usize, from: usize, tally: Tally) -> Ends
-    ensures { λ r. ⌜ r ≡ endsBy bytes from (tallySaid tally) ⌝ }
+// The tag of the item at a place, 0 where there is none.
+fn tag_at(packet: &[u8], at: usize) -> u64
+    ensures { λ r. ⌜ r ≡ headerIn (now (packet .entry)) at .tag ⌝ }
 {
-    let last = tally.last;
-    let mut start = from;
-    if tally.count == 0 {
-        start = bytes;
+    match item_at(packet, at) {
+        Step::Item(item) => item.tag,
+        Step::Refused(_) => 0,
     }
+}
+
+// The header of the item at a place; where there is none, one with nothing in it.
+fn header_at(packet: &[u8], at: usize) -> Header
+    ensures { λ r. ⌜ r ≡ headerIn (now (packet .entry)) at ⌝ }
+{
+    match item_at(packet, at) {
+        Step::Item(item) => item,
+        Step::Refused(_) => Header {
+            tag: 0,
+            start: 0,
+            place: 0,
+            size: 0,
+        },
+    }
+}
+
+// The first and the last item; where there is none, the first one is said to be absent where the items begin, at the packet's end.
+fn ends_of(packet: &[u8], from: usize, last: Header) -> Ends
+    ensures { λ r. ⌜ r ≡ endsBy (now (packet .entry)) from last ⌝ }
+{
     Ends {
-        start,
-        first: tally.first,
+        start: from,
+        first: tag_at(packet, from),
         end: last.start,
         last: last.tag,
         size: last.size,
     }
 }
 
-// The checksum, and then the receiver's judgement.
-fn summed(packet: &[u8], from: usize, tally: Tally) -> Checked
-    requires { ⌜ (tally .last .place + tally .last .size ≤ length (now packet)) × (tally .last .size ≡ 2) ⌝ }
-    ensures { λ r. ⌜ checkSaid r ≡ lastBy (now (packet .entry)) from (tallySaid tally) ⌝ }
+// Whether the two bytes of the last item are the checksum of all before them.
+fn is_summed(packet: &[u8], place: usize) -> bool
+    requires { ⌜ place + 2 ≤ length (now packet) ⌝ }
+    ensures { λ r. ⌜ r ≡ summedAt (now (packet .entry)) place ⌝ }
 {
-    let last = tally.last;
-    let place = last.place;
     let end = place + 2;
     let stored = number::value(&packet[place..end]);
     let sum = checksum::checksum(&packet[..place]) as u64;
-    if stored == sum {
-        return judged(from, tally);
-    }
-    refused(Reason::ChecksumDiffers, place, 1)
+    stored == sum
 }
 
-// The first and the last item before that.
-fn conclude(packet: &[u8], from: usize, tally: Tally) -> Checked
-    requires { ⌜ tally .last .place + tally .last .size ≤ length (now packet) ⌝ }
-    ensures { λ r. ⌜ checkSaid r ≡ concluded (now (packet .entry)) from (tallySaid tally) ⌝ }
+// First, last and sum.
+fn closed(packet: &[u8], from: usize, last: Header) -> Right
+    requires { ⌜ last .place + last .size ≤ length (now packet) ⌝ }
+    ensures { λ r. ⌜ rightSaid r ≡ closedBy (now (packet .entry)) from last ⌝ }
 {
-    match check_ends(ends_of(packet.len(), from, tally)) {
+    match check_ends(ends_of(packet, from, last)) {
+        Right::Refused(refusal) => Right::Refused(refusal),
+        Right::Yes => {
+            let place = last.place;
+            if is_summed(packet, place) {
+                return Right::Yes;
+            }
+            Right::Refused(Refusal {
+                reason: Reason::ChecksumDiffers,
+                place,
+                tag: 1,
+            })
+        }
+    }
+}
+
+// Whether an item of one byte is not known, not there, or has one of its codes.
+fn is_coded(packet: &[u8], known: TagSet, past: &[u16; 128], tag: usize) -> bool
+    requires { ⌜ (tag < 128) × (getD (now past) tag 0 ≤ length (now packet)) ⌝ }
+    ensures { λ r. ⌜ r ≡ codedIn known (now (packet .entry)) (now (past .entry)) tag ⌝ }
+{
+    let end = past[tag] as usize;
+    if 0 < end {
+        if tagset::has(known, tag as u64) {
+            return catalogue::allows_code(tag as u64, 1, number::wide(packet[end - 1]));
+        }
+    }
+    true
+}
+
+// Whether nothing was gathered on the way: no known item looked wrong, 34 and 63 have their codes, and item 65 is there.
+fn is_clean(packet: &[u8], known: TagSet, past: &[u16; 128], wrong: bool) -> bool
+    requires { ⌜ PastIn (length (now packet)) (now past) ⌝ }
+    ensures { λ r. ⌜ r ≡ cleanIn known (now (packet .entry)) (now (past .entry)) wrong ⌝ }
+{
+    if wrong {
+        return false;
+    }
+    if past[65] == 0 {
+        return false;
+    }
+    if is_coded(packet, known, past, 34) {
+        return is_coded(packet, known, past, 63);
+    }
+    false
+}
+
+// First, last and sum of the items passed; then the exact walk names the fault, if anything was gathered.
+fn concluded(packet: &[u8], from: usize, known: TagSet, past: &[u16; 128], passed: Passed) -> Right
+    requires { ⌜ Whole known (now packet) from passed (now past) ⌝ }
+    ensures { λ r. ⌜ rightSaid r ≡ rightFrom known (now (packet .entry)) from ⌝ }
+{
+    let wrong = passed.wrong;
+    match closed(packet, from, header_at(packet, passed.last)) {
+        Right::Refused(refusal) => Right::Refused(refusal),
+        Right::Yes => {
+            if is_clean(packet, known, past, wrong) {
+                return Right::Yes;
+            }
+            judged(packet, from, known)
+        }
+    }
+}
+
+// Why a walk stopped before the packet's end: too many items, or none at its place.
+fn stopped(packet: &[u8], here: usize, count: usize) -> Refusal
+    requires { ⌜ Stops (now packet) here count ⌝ }
+    ensures { λ r. ⌜ walkItems (128 - count) here (drop here (now (packet .entry))) ≡ refusalOf r ⌝ }
+{
+    let full = Refusal {
+        reason: Reason::TooManyItems,
+        place: here,
+        tag: 0,
+    };
+    if count == 128 {
+        return full;
+    }
+    match any_item_at(packet, here) {
+        Step::Refused(refusal) => refusal,
+        Step::Item(_) => full,
+    }
+}
+
+// The items, once it is known where they begin; in a column of nothing, for each tag the place past its item.
+fn check_from(packet: &[u8], from: usize, known: TagSet, past: &mut [u16; 128]) -> Checked
+    requires { ⌜ Begins known (now packet) from (now past) ⌝ }
+    ensures { λ r. ⌜ ChecksFrom known (now (packet .entry)) from r (now (past .exit)) ⌝ }
+{
+    let passed = pass(packet, from, known, past);
+    let here = passed.here;
+    let count = passed.count;
+    let longer = passed.longer;
+    if here < packet.len() {
+        return Checked::Refused(stopped(packet, here, count));
+    }
+    match concluded(packet, from, known, past, passed) {
         Right::Refused(refusal) => Checked::Refused(refusal),
-        Right::Yes => summed(packet, from, tally),
+        Right::Yes => Checked::Accepted(Accepted {
+            from,
+            count,
+            longer,
+        }),
     }
 }
 
-// The items, once it is known where they begin.
-fn check_from(packet: &[u8], from: usize, known: TagSet) -> Checked
-    ensures { λ r. ⌜ checkSaid r ≡ walkedBy (now (packet .entry)) from (tallied known fresh (walkItems 128 from (drop from (now (packet .entry))))) ⌝ }
+// Where the items begin, for a good knowing set.
+fn begun(packet: &[u8], known: TagSet) -> Frame
+    ensures { λ r. ⌜ frameSaid r ≡ begunBy known (now (packet .entry)) ⌝ }
 {
-    let column = catalogue::shapes();
-    match walk_from(packet, from, &column, known) {
-        Walk::Refused(refusal) => Checked::Refused(refusal),
-        Walk::Whole(tally) => conclude(packet, from, tally),
+    if knowing::is_good(known) {
+        return framed(packet);
     }
+    unframed(Reason::SetNotGood, 0)
 }
 
 // Whether a receiver accepts a packet: document 01's refusals in their order, but for 2.
 pub fn check(packet: &[u8], known: TagSet) -> Checked
     ensures { λ r. ⌜ checkSaid r ≡ checked known (now (packet .entry)) ⌝ }
 {
-    if knowing::is_good(known) {
-        return match framed(packet) {
-            Frame::Refused(refusal) => Checked::Refused(refusal),
-            Frame::From(from) => check_from(packet, from, known),
-        };
+    match begun(packet, known) {
+        Frame::Refused(refusal) => Checked::Refused(refusal),
+        Frame::From(from) => {
+            let mut past = [0u16; 128];
+            check_from(packet, from, known, &mut past)
+        }
     }
-    refused(Reason::SetNotGood, 0, 0)
+}
+
+// The answer, and an accepted packet's places: for each tag below 128 the one past its last item, 0 where there is none; at 0 that of the
+// tags from 128 on.
+pub struct Located {
+    pub answer: Checked,
+    pub past: [u16; 128],
+}
+
+// The same, with the places at which the values end; after a refusal there are none.
+pub fn locate(packet: &[u8], known: TagSet) -> Located
+    ensures { λ r. ⌜ Locates known (now (packet .entry)) r ⌝ }
+{
+    let mut past = [0u16; 128];
+    match begun(packet, known) {
+        Frame::Refused(refusal) => Located {
+            answer: Checked::Refused(refusal),
+            past,
+        },
+        Frame::From(from) => {
+            let answer = check_from(packet, from, known, &mut past);
+            match answer {
+                Checked::Accepted(_) => Located { answer, past },
+                Checked::Refused(_) => Located {
+                    answer,
+                    past: [0u16; 128],
+                },
+            }
+        }
+    }
 }

@@ -1,56 +1,68 @@
 -- `packet::check_from` meets its contract.
 -- Assumes nothing.
-use borrow.Author.Needs.{needs}
-use mathlib.Core.Path.{_≡_, refl, sym, ap, _∙_}
+use mathlib.Core.Path.{sym, ap, _∙_}
 use native.Mathlib.Omega.{arith}
-use lib.ListN.{drop}
-use Rattle.refusal.specs.Answer.{given}
-use Rattle.packet.specs.Pieces.{walk}
-use Rattle.packet.specs.code.Tally.{fresh, tallied, tallySaid, walkSaid}
-use Rattle.packet.specs.code.Concluded.{walkedBy}
-use Rattle.packet.proofs.Tallies.{last-inside}
+use Rattle.refusal.proofs.Answers.{not-given}
+use Rattle.number.specs.Stored.{Bytes}
+use Rattle.tagset.proofs.Laws.{Words}
+use Rattle.packet.specs.Said.{rightSaid}
+use Rattle.packet.proofs.Concluding.{passes-whole, passes-refused, right-refused, right-given, past-items}
+use borrow.Author.Needs.{needs}
 use Rattle.packet.proofs.check_from.Statement.{statement}
 use Rattle.packet.proofs.check_from.Tie as tie
 
-said : (c : tie.After-known-told2)
-    → given (tallySaid (c .before .tally .given .0 .0)) ≡ tallied (c .before .before .before .before .before .before .before .args .known) fresh
-    (walk 128 (c .before .before .before .before .before .before .before .args .from)
-    (drop (c .before .before .before .before .before .before .before .args .from)
-    (c .before .before .before .before .before .before .before .args .packet .now)))
-said c = ap walkSaid (sym (c .before .tally .given .1)) ∙ c .before .before .before .walk-from .ensures
+words : (c : tie.After-pass) → Words (c .before .before .before .args .known)
+words c = record { low64 = omega (arith, c .before .before .before .good); high64 = omega (arith, c .before .before .before .good) }
 
-shapes-requires : tie.Need-shapes-requires
-shapes-requires c κs = search needs
+bytes : (c : tie.After-pass) → Bytes (c .before .before .before .args .packet .now)
+bytes c = record { byte = λ i. c .before .before .shared-slice-known .given i .fits }
 
-walk-from-requires : tie.Need-walk-from-requires
-walk-from-requires c κs = search needs
+pass-requires : tie.Need-pass-requires
+pass-requires c κs = let k = c .before .before .pre in (k .some, k .short, k .inside)
+
+stopped-requires : tie.Need-stopped-requires
+stopped-requires c κs = c .before .pass .ensures .stops (c .if1 .taken)
+
+returns : tie.Need-returns
+returns c = record {
+  says = sym (passes-refused _ _ _ _ (c .before .before .before .before .before .pre) _ _ (c .before .before .pass .ensures) _ _ _ (c .stopped .ensures));
+  places = λ a f. not-given f;
+}
+
+concluded-requires : tie.Need-concluded-requires
+concluded-requires c κs = passes-whole _ _ _ _ (c .before .before .before .before .before .pre) _ _ (c .before .before .pass .ensures) (c .before .if1 .left)
 
 enum-known-refusal : tie.Need-enum-known-refusal
 enum-known-refusal c = search needs
 
-enum-known-tally : tie.Need-enum-known-tally
-enum-known-tally c = search needs
-
-conclude-requires : tie.Need-conclude-requires
-conclude-requires c κs =
-    let k = c .before .before .before .before .before .before in
-    last-inside _ (record { low64 = omega (arith, k .before .good); high64 = omega (arith, k .before .good) }) _
-    (record { byte = λ i. k .shared-slice-known .given i .fits }) _ _ _ refl (said c)
-
-returns : tie.Need-returns
-returns c = ap (walkedBy _ _) (ap walkSaid (sym (c .before .refusal .given .1)) ∙ c .before .before .before .walk-from .ensures)
+enum-told : tie.Need-enum-told
+enum-told c = search needs
 
 returns-2 : tie.Need-returns-2
-returns-2 c = c .conclude .ensures ∙ ap (walkedBy _ _) (said (c .before))
+returns-2 c = let p = c .before .before .before .before .before .before in
+    let w = passes-whole _ _ _ _ (p .before .before .before .pre) _ _ (p .pass .ensures) (c .before .before .before .before .before .if1 .left) in
+    record {
+      says = sym (right-refused _ (words p) _ (bytes p) _ _ _ w _ _ _ (sym (c .before .before .before .concluded .ensures) ∙ ap rightSaid (c .before .refusal .given .1)));
+      places = λ a f. not-given f;
+    }
+
+returns-3 : tie.Need-returns-3
+returns-3 c = let p = c .before .before .before .before .before in
+    let w = passes-whole _ _ _ _ (p .before .before .before .pre) _ _ (p .pass .ensures) (c .before .before .before .before .if1 .left) in
+    record {
+      says = sym (right-given _ (words p) _ (bytes p) _ _ _ w (sym (c .before .before .concluded .ensures) ∙ ap rightSaid (c .enum-told .given .1)));
+      places = λ a f. past-items _ (words p) _ (bytes p) _ _ _ w;
+    }
 
 pub check-from-spec : {M : Type 1} → statement M
 check-from-spec =
     tie.close
     (tie.spec
-    shapes-requires
-    walk-from-requires
-    enum-known-refusal
-    enum-known-tally
-    conclude-requires
+    pass-requires
+    stopped-requires
     returns
-    returns-2)
+    concluded-requires
+    enum-known-refusal
+    enum-told
+    returns-2
+    returns-3)

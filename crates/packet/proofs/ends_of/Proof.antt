@@ -1,14 +1,14 @@
 -- `packet::ends_of` meets its contract.
 -- Assumes nothing.
-use borrow.Author.Tests.{eq-eqb, ne-eqb}
+use borrow.Author.Needs.{needs}
 use Rattle.packet.proofs.ends_of.Statement.{statement}
 use Rattle.packet.proofs.ends_of.Tie as tie
 
-returns : tie.Need-returns
-returns c = rw (eq-eqb _ 0 (c .if1 .taken))
+tag-at-requires : tie.Need-tag-at-requires
+tag-at-requires c κs = search needs
 
-returns-2 : tie.Need-returns-2
-returns-2 c = rw (ne-eqb _ 0 (c .if1 .left))
+returns : tie.Need-returns
+returns c = rw (c .tag-at .ensures)
 
 pub ends-of-spec : {M : Type 1} → statement M
-ends-of-spec = tie.close (tie.spec returns returns-2)
+ends-of-spec = tie.close (tie.spec tag-at-requires returns)

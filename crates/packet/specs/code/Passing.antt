@@ -1,0 +1,101 @@
+-- The shadow of the code, not to be believed but proved to be what document 01's definitions give: what the walk at a glance keeps of
+-- the items that it has passed, one after another from the left.
+use Prim.Native.Nat.{ℕ, _+_, _-_, _^_, _<_, _≤_}
+use mathlib.Core.Path.{_≡_}
+use mathlib.Core.Bool.{Bool, false, not, _&&_, _||_}
+use mathlib.Core.List.{List, [], _∷_}
+use lib.Dec.{eqb}
+use lib.ListN.{length, drop, getD, set}
+use Rattle.refusal.specs.Answer.{Answer, given, refused, map}
+use Rattle.ber.specs.Written.{tagBytes, lengthBytes}
+use Rattle.tagset.specs.Sets.{holds}
+use Rattle.tagset.specs.declared.TagSet.{TagSet}
+use Rattle.catalogue.specs.code.Column.{shapeColumn, widthIn}
+use Rattle.packet.specs.Pieces.{Item, walk}
+use Rattle.packet.specs.Said.{headerAt}
+use Rattle.packet.specs.Verdict.{oneByte}
+use Rattle.packet.specs.code.Headers.{headerOf}
+use Rattle.packet.specs.declared.Header.{Header}
+use Rattle.packet.specs.declared.Glance.{Glance}
+use Rattle.packet.specs.declared.Passed.{Passed}
+
+-- by how many bytes what stands before a value is longer than its shortest form
+abbrev pub shortest : Header → ℕ
+shortest h = length (tagBytes (h .tag)) + length (lengthBytes (h .size))
+
+abbrev pub longerIn : Header → ℕ
+longerIn h = h .place - h .start - length (tagBytes (h .tag)) - length (lengthBytes (h .size))
+
+-- two words of 64 bits
+pub record TwoWords (l : List ℕ) : Type 0 where
+  pub low : getD l 0 0 < 2 ^ 64
+  pub high : getD l 1 0 < 2 ^ 64
+
+-- an item at a glance
+abbrev pub glanceOf : Header → Glance
+glanceOf h = record { tag = oneByte (h .tag); size = oneByte (h .size); past = h .place + h .size; longer = longerIn h }
+
+-- there is no item at a place
+pub record NoItem (p : List ℕ) (at : ℕ) : Type 0 where
+  pub number : ℕ
+  pub place : ℕ
+  pub tag : ℕ
+  pub refuses : headerAt p at ≡ refused number place tag
+
+pub record SeenAt (p : List ℕ) (at : ℕ) (g : Glance) : Type 0 where
+  pub header : Header
+  pub found : headerAt p at ≡ given header
+  pub same : g ≡ glanceOf header
+
+-- what a glance at a place of a packet says: the item, or by a place past the packet that there is none
+pub record Glances (p : List ℕ) (at : ℕ) (g : Glance) : Type 0 where
+  pub item : g .past ≤ length p → SeenAt p at g
+  pub none : length p < g .past → NoItem p at
+
+-- a known item looks wrong: of another length than its width, or an empty text, or met before
+abbrev pub unfit : ℕ → ℕ → Bool
+unfit width size = not (eqb size width) && not (eqb width 0) || eqb size width && eqb width 0
+
+unfoldable pub looksWrong : TagSet → List ℕ → Glance → Bool
+looksWrong K past g = holds K (g .tag) && (unfit (widthIn shapeColumn (g .tag)) (g .size) || not (eqb (getD past (g .tag) 0) 0))
+
+-- what is kept, with the places past the items
+pub record Kept : Type 0 where
+  pub passed : Passed
+  pub past : List ℕ
+
+abbrev pub withHeader : TagSet → Kept → Header → Kept
+withHeader K k h =
+    record {
+      passed = record {
+        here = h .place + h .size;
+        count = k .passed .count + 1;
+        last = h .start;
+        longer = k .passed .longer + longerIn h;
+        wrong = k .passed .wrong || looksWrong K (k .past) (glanceOf h);
+      };
+      past = set (k .past) (oneByte (h .tag)) (h .place + h .size);
+    }
+
+unfoldable pub keptFrom : TagSet → Kept → List Item → Kept
+keptFrom K k [] = k
+keptFrom K k (i ∷ is) = keptFrom K (withHeader K k (headerOf i)) is
+
+abbrev pub kept : TagSet → Kept → Answer (List Item) → Answer Kept
+kept K k = map (keptFrom K k)
+
+abbrev pub freshAt : ℕ → List ℕ → Kept
+freshAt from past = record { passed = record { here = from; count = 0; last = from; longer = 0; wrong = false }; past = past }
+
+-- a walk stops before the packet's end: at too many items, or where there is none
+pub record Stops (p : List ℕ) (here count : ℕ) : Type 0 where
+  pub before : here < length p
+  pub few : count ≤ 128
+  pub none : (count ≡ 128 → ⊥) → NoItem p here
+
+-- where a walk from a place has come to: what is kept with the items ahead is what is kept of all
+pub record Passes (K : TagSet) (p : List ℕ) (from : ℕ) (before : List ℕ) (r : Passed) (past : List ℕ) : Type 0 where
+  pub few : r .count ≤ 128
+  pub goes : kept K (record { passed = r; past = past }) (walk (128 - r .count) (r .here) (drop (r .here) p))
+      ≡ kept K (freshAt from before) (walk 128 from (drop from p))
+  pub stops : r .here < length p → Stops p (r .here) (r .count)
