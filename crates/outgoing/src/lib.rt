@@ -1,7 +1,8 @@
 // What a table of rows comes to before it is written: the writer's refusals in their order, or the size of the packet.
 // Nothing is written here, and no sum wraps for any table.
 ghost use mathlib.Core.Path.{_≡_};
-ghost use Prim.Native.Nat.{_≤_};
+ghost use mathlib.Core.Bool.{true};
+ghost use Prim.Native.Nat.{_^_, _<_, _≤_};
 ghost use lib.ListN.{length};
 ghost use Rattle.refusal.specs.Numbers.{number};
 ghost use Rattle.refusal.specs.Answer.{refused as refusedBy, map};
@@ -12,7 +13,9 @@ ghost use Rattle.packet.specs.Said.{rightSaid};
 ghost use Rattle.packet.specs.Rows.{rowsIn};
 ghost use Rattle.outgoing.specs.Outgoing.{rightRows, outgoing, packedOf};
 ghost use Rattle.outgoing.specs.code.Staged.{rowSize, rowsSize, packedBy, rowFault, judgedIn, endsIn, closedIn, sizedIn};
+ghost use Rattle.outgoing.specs.code.Glance.{PlainAs, Plain, PlainRows, PlainEnds, FitsPlainly};
 ghost use Rattle.outgoing.specs.Said.{outgoingSaid};
+use catalogue::Shape;
 use packet::Ends;
 use packet::Fault;
 use packet::Looked;
@@ -84,11 +87,10 @@ fn rows_size(count: usize, words: &[u64]) -> usize
 }
 
 // And the packet: key, length, items.
-fn packet_size(count: usize, words: &[u64]) -> Packed
-    requires { ⌜ count ≤ 128 ⌝ }
-    ensures { λ r. ⌜ r ≡ packedBy (rowsSize (rowsIn 0 count (now (words .entry)))) ⌝ }
+fn packet_size(items: usize) -> Packed
+    requires { ⌜ items < 2 ^ 32 ⌝ }
+    ensures { λ r. ⌜ r ≡ packedBy items ⌝ }
 {
-    let items = rows_size(count, words);
     let size = 16 + ber::length_size(items as u64) + items;
     Packed { size, items }
 }
@@ -197,11 +199,132 @@ fn sized(column: &[u8; 128], known: TagSet, count: usize, words: &[u64]) -> Outg
     requires { ⌜ (now column ≡ shapeColumn) × (count ≤ 128) ⌝ }
     ensures { λ r. ⌜ outgoingSaid r ≡ sizedIn known count (now (words .entry)) ⌝ }
 {
-    let packed = packet_size(count, words);
+    let packed = packet_size(rows_size(count, words));
     if 8192 < packed.size {
         return refused(Reason::PacketTooLong, 0, 0);
     }
     closed(column, known, count, words, packed)
+}
+
+// How many bytes the item of a known row has, where the row is plainly right and the first of its tag; else 0.
+fn known_size(shape: Shape, room: usize, row: RowWords) -> usize
+    ensures { λ r. ⌜ (0 < r → PlainAs shape room row r) ⌝ }
+{
+    if rows::is_good_row(shape, room, row) {
+        let looked = Looked {
+            shape,
+            tag: row.tag,
+            size: (row.part % 65536) as usize,
+            code: row.code,
+            twice: false,
+        };
+        return match packet::fault_of(looked) {
+            Fault::Clean => row_size(row),
+            Fault::Wrong(_) => 0,
+        };
+    }
+    0
+}
+
+// The same of any row, for a receiver that has seen some tags; each shape by itself, so that its tests go by a shape that is settled.
+fn plain_size(column: &[u8; 128], known: TagSet, seen: TagSet, room: usize, row: RowWords) -> usize
+    requires { ⌜ now column ≡ shapeColumn ⌝ }
+    ensures { λ r. ⌜ (0 < r → Plain known seen room row r) ⌝ }
+{
+    let tag = row.tag;
+    if tagset::has(known, tag) {
+        if tagset::has(seen, tag) {
+            return 0;
+        }
+        return match catalogue::shape_at(column, tag) {
+            Shape::Number { width, marked } => {
+                known_size(Shape::Number { width, marked }, room, row)
+            }
+            Shape::Text => known_size(Shape::Text, room, row),
+            Shape::Absent => 0,
+        };
+    }
+    if rows::is_good_row(Shape::Absent, room, row) {
+        return row_size(row);
+    }
+    0
+}
+
+// What a walk over the rows keeps: whether each was plainly right, the tags seen, how many bytes their items have.
+struct Glance {
+    right: bool,
+    seen: TagSet,
+    items: usize,
+}
+
+// All rows in one walk, which stops at the first that is not plainly right.
+fn rows_at_a_glance(
+    column: &[u8; 128],
+    known: TagSet,
+    count: usize,
+    words: &[u64],
+    room: usize,
+) -> Glance
+    requires { ⌜ (now column ≡ shapeColumn) × (count ≤ 128) ⌝ }
+    ensures { λ r. ⌜ (r .right ≡ true → PlainRows known room (rowsIn 0 count (now (words .entry))) (r .seen) (r .items)) ⌝ }
+{
+    let mut seen = TagSet { low: 0, high: 0 };
+    let mut items: usize = 0;
+    let mut n: usize = 0;
+    while n < count {
+        let row = rows::row_at(words, n);
+        let size = plain_size(column, known, seen, room, row);
+        if size == 0 {
+            return Glance {
+                right: false,
+                seen,
+                items,
+            };
+        }
+        seen = tagset::with_tag(seen, row.tag);
+        items += size;
+        n += 1;
+    }
+    Glance {
+        right: true,
+        seen,
+        items,
+    }
+}
+
+// The total size, and the first and the last row.
+fn ends_at_a_glance(count: usize, words: &[u64], items: usize) -> Packed
+    requires { ⌜ items < 2 ^ 32 ⌝ }
+    ensures { λ r. ⌜ (0 < r .size → PlainEnds count (now (words .entry)) items r) ⌝ }
+{
+    let packed = packet_size(items);
+    if packed.size <= 8192 {
+        return match packet::check_ends(ends_of(count, words)) {
+            Right::Yes => packed,
+            Right::Refused(_) => Packed { size: 0, items },
+        };
+    }
+    Packed { size: 0, items }
+}
+
+// What the packet comes to where all is seen to be right at a glance; size 0 where it is for the stages to say.
+fn at_a_glance(
+    column: &[u8; 128],
+    known: TagSet,
+    count: usize,
+    words: &[u64],
+    room: usize,
+) -> Packed
+    requires { ⌜ (now column ≡ shapeColumn) × (count ≤ 128) ⌝ }
+    ensures { λ r. ⌜ (0 < r .size → FitsPlainly known room count (now (words .entry)) r) ⌝ }
+{
+    let glance = rows_at_a_glance(column, known, count, words, room);
+    if glance.right {
+        if tagset::has(glance.seen, 65) {
+            return ends_at_a_glance(count, words, glance.items);
+        }
+    }
+    Packed { size: 0, items: 0 }
 }
 
 // What count rows in lent words come to, with the buffer that text and carried rows point into: document 01's refusals of the
@@ -212,6 +335,10 @@ pub fn check_rows(known: TagSet, count: usize, words: &[u64], buffer: &[u8]) -> 
     if knowing::is_good(known) {
         if rows::is_good_count(count, words.len()) {
             let column = catalogue::shapes();
+            let packed = at_a_glance(&column, known, count, words, buffer.len());
+            if 0 < packed.size {
+                return Outgoing::Fits(packed);
+            }
             return match rows_right(&column, known, count, words, buffer.len()) {
                 Right::Refused(refusal) => Outgoing::Refused(refusal),
                 Right::Yes => sized(&column, known, count, words),

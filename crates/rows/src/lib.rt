@@ -200,10 +200,23 @@ fn word_at(words: &[u64], n: usize, k: usize) -> u64
     0
 }
 
-// The four words of the row numbered n, whether it is bad or not.
+// The four words of the row numbered n, whether it is bad or not: asked once whether all four are lent, and one by one where they are not.
 pub fn row_at(words: &[u64], n: usize) -> RowWords
     ensures { λ r. ⌜ r ≡ rowAt (now (words .entry)) n ⌝ }
 {
+    if n < words.len() / 4 {
+        let at = 4 * n;
+        let tag = words[at];
+        let kind = words[at + 1];
+        let code = words[at + 2];
+        let part = words[at + 3];
+        return RowWords {
+            tag,
+            kind,
+            code,
+            part,
+        };
+    }
     RowWords {
         tag: word_at(words, n, 0),
         kind: word_at(words, n, 1),

@@ -15,6 +15,7 @@ use Rattle.tagset.specs.Sets.{holds}
 use Rattle.tagset.specs.declared.TagSet.{TagSet}
 use Rattle.rows.proofs.Laws.{count-good}
 use Rattle.packet.specs.Encode.{encode}
+use Rattle.packet.specs.Rows.{rowsIn}
 use Rattle.outgoing.specs.Outgoing.{outgoing, packedOf}
 use Rattle.outgoing.specs.Said.{outgoingSaid}
 use Rattle.outgoing.specs.declared.Packed.{Packed}
@@ -25,11 +26,12 @@ use Rattle.writer.specs.code.Putting.{tablePieces, Ready}
 use Rattle.writer.specs.Writes.{Writes, written, writtenBy, outputBy, writeAnswer, writeOutput, writeSaid}
 use Rattle.writer.specs.declared.Writing.{Writing}
 use Rattle.writer.specs.declared.Writing.the-variants.{Packet, Refused}
+use Rattle.writer.proofs.Values.{all-can, all-said}
 
 -- rows that make a packet
 pub record Fit (K : TagSet) (count : ℕ) (words b : List ℕ) (p : Packed) : Type 0 where
-  pub sent : outgoing K count words b ≡ given (tablePieces (holds K) b count words)
-  pub sizes : p ≡ packedOf (tablePieces (holds K) b count words)
+  pub sent : outgoing K count words b ≡ given (tablePieces b count words)
+  pub sizes : p ≡ packedOf (tablePieces b count words)
   pub rows : Outgoes K count words b
 
 module _ {K : TagSet} {count : ℕ} {words b : List ℕ} where
@@ -47,11 +49,12 @@ module _ {K : TagSet} {count : ℕ} {words b : List ℕ} where
   fit e f =
       let x = map-given packedOf (outgoing K count words b) (sym e ∙ ap outgoingSaid f) in
       let g = outgoing-then K count words b (x .0) (x .1) in
-      record { sent = x .1 ∙ ap given (sym (g .1)); sizes = sym (x .2) ∙ ap packedOf (sym (g .1)); rows = g .0 }
+      let said : tablePieces b count words ≡ x .0 = all-said (holds K) b (rowsIn 0 count words) (g .0 .rows) ∙ g .1 in
+      record { sent = x .1 ∙ ap given (sym said); sizes = sym (x .2) ∙ ap packedOf (sym said); rows = g .0 }
 
   module _ {p : Packed} (f : Fit K count words b p) where
     abbrev packet : List ℕ
-    packet = encode (tablePieces (holds K) b count words)
+    packet = encode (tablePieces b count words)
 
     size-is : p .size ≡ length packet
     size-is = ap (λ (x : Packed). x .size) (f .sizes)
@@ -60,22 +63,23 @@ module _ {K : TagSet} {count : ℕ} {words b : List ℕ} where
     unfolding written
     too-short {o} h s = by-refusal (rw (f .sent, lt-ltb (length o) (length packet) (rw (← size-is) h))) s
 
-    pub ready : {room : ℕ} → p .size ≤ room → Ready (holds K) b count words (p .size) (p .items) room
+    pub ready : {room : ℕ} → p .size ≤ room → Ready b count words (p .size) (p .items) room
     ready h =
         let c = count-good count (length words) (f .rows .counted) in
         record {
-          rows = record { few = c .0; lent = c .1; good = f .rows .rows };
+          rows = record { few = c .0; good = all-can (holds K) b (rowsIn 0 count words) (f .rows .rows) };
           whole = size-is;
           part = ap (λ (x : Packed). x .items) (f .sizes);
-          small = rw size-is (f .rows .pieces .small);
+          small = rw (size-is, all-said (holds K) b (rowsIn 0 count words) (f .rows .rows)) (f .rows .pieces .small);
           fits = h;
         }
 
-    is-written : {room : ℕ} → p .size ≤ room → written K count words b room ≡ given (tablePieces (holds K) b count words)
+    is-written : {room : ℕ} → p .size ≤ room → written K count words b room ≡ given (tablePieces b count words)
     unfolding written
     is-written {room} h = rw (f .sent, le-ltb room (length packet) (rw (← size-is) h))
 
-    pub packet-written : {o o′ : List ℕ} {n : ℕ} → p .size ≤ length o → Wrote o 0 packet n o′ → Writes K count words b o (Packet (record { size = p .size })) o′
+    pub packet-written : {o o′ : List ℕ} {n : ℕ} → p .size ≤ length o → Wrote o 0 packet n o′
+        → Writes K count words b o (Packet (record { size = p .size })) o′
     unfolding writeAnswer writeOutput
     packet-written {o} h w =
         record {

@@ -2,14 +2,20 @@
 -- Assumes nothing.
 use Prim.Native.Nat.{ℕ, _+_, _≤_}
 use native.Mathlib.Omega.{arith}
-use mathlib.Core.Path.{_≡_, ap, sym}
-use mathlib.Core.List.{List, _∷_, _++_}
-use lib.ListN.{length}
+use mathlib.Core.Path.{_≡_, refl, ap, sym, _∙_}
+use mathlib.Core.List.{List, [], _∷_, _++_, append-assoc}
+use lib.ListN.{length, set}
 use Rattle.base.specs.Putting.{Puts, Room, Wrote}
+use Rattle.base.proofs.Putting.{put-one, put-next, all-wrote}
 use Rattle.base.proofs.Putting.{puts-wrote, wrote-length, wrote-room, room-first, room-after, room-of, wrote-then, wrote-rest, wrote-as}
 use Rattle.ber.specs.Written.{tagBytes, lengthBytes}
 use Rattle.packet.specs.Pieces.{Piece}
 use Rattle.packet.specs.Encode.{itemBytes, itemsBytes}
+
+-- two bytes, one after the other
+pub two-wrote : (o : List ℕ) (at a b : ℕ) → at + 2 ≤ length o → Wrote o at (a ∷ b ∷ []) (at + 2) (set (set o at a) (at + 1) b)
+two-wrote o at a b h =
+    all-wrote o at 2 (a ∷ b ∷ []) refl h _ (ap (λ l. set l (at + 1) b) (put-one o at a (omega arith)) ∙ put-next o at (a ∷ []) b (omega arith))
 
 -- tag, length and value
 module _ {o : List ℕ} {at : ℕ} (c : Piece) {size : ℕ} (e : length (c .value) ≡ size) (h : Room o at (itemBytes c)) where
@@ -20,6 +26,21 @@ module _ {o : List ℕ} {at : ℕ} (c : Piece) {size : ℕ} (e : length (c .valu
   parts-room : Room o at (tagBytes (c .tag) ++ (lengthBytes size ++ c .value))
   parts-room = room-of parts h
 
+  -- tag and length at once, and then the value
+  header : tagBytes (c .tag) ++ lengthBytes size ++ c .value ≡ itemBytes c
+  header = append-assoc (tagBytes (c .tag)) (lengthBytes size) (c .value) ∙ parts
+
+  pub header-room : Room o at (tagBytes (c .tag) ++ lengthBytes size)
+  header-room = room-first (c .value) (room-of header h)
+
+  module _ {place : ℕ} {o₁ : List ℕ} (w : Wrote o at (tagBytes (c .tag) ++ lengthBytes size) place o₁) where
+    pub room-behind : place + size ≤ length o₁
+    room-behind = omega (arith, room-after w (room-of header h) .fits)
+
+    pub wrote-behind : {m : ℕ} {o₂ : List ℕ} → Wrote o₁ place (c .value) m o₂ → Wrote o at (itemBytes c) m o₂
+    wrote-behind v = wrote-as header (wrote-then w v)
+
+  -- one after the other
   module _ {n : ℕ} {o₁ : List ℕ} (p : Puts o at (tagBytes (c .tag)) n o₁) where
     pub tag-wrote : Wrote o at (tagBytes (c .tag)) (at + n) o₁
     tag-wrote = puts-wrote (room-first _ parts-room) p

@@ -1,59 +1,81 @@
--- A row's value: where its bytes are, and how many.
+-- A row's value by its kind: how many bytes it has, and that it is the one that a receiver gives a row that is not bad.
 -- Assumes nothing.
-use Prim.Native.Nat.{ℕ, _+_, _≤_}
+use Prim.Native.Nat.{ℕ, _<_, _≤_}
 use native.Mathlib.Omega.{arith}
-use mathlib.Core.Path.{_≡_, ap, sym, _∙_}
-use mathlib.Core.Bool.{Bool, true}
-use mathlib.Core.List.{List}
-use lib.ListN.{length, take, drop, length-drop}
+use mathlib.Core.Path.{_≡_, refl, ap, ap₂, _∙_}
+use mathlib.Core.Bool.{true, _&&_}
+use mathlib.Core.List.{List, [], _∷_}
+use lib.ListN.{length, drop, length-drop}
 use lib.Seq.{length-take-le}
-use lib.Dec.{eqb}
-use borrow.Author.Tests.{eqb-true, leb-true}
+use lib.Dec.{ltb, eqb}
+use borrow.Author.Tests.{lt-ltb, le-ltb, ltb-true, eqb-true, leb-true}
+use Rattle.base.specs.Every.{Each}
+use Rattle.base.proofs.Cases.{byBool, byLt}
 use Rattle.base.proofs.Every.{both-left, both-right}
 use Rattle.number.specs.Stored.{bytesOf}
 use Rattle.number.proofs.Laws.{length-bytesOf}
 use Rattle.catalogue.specs.declared.Shape.{Shape}
 use Rattle.catalogue.specs.declared.Shape.the-variants.{Text, Number, Absent}
-use Rattle.rows.specs.Meaning.{kindFor}
+use Rattle.rows.specs.Meaning.{shapeFor, markCode, kindFor}
 use Rattle.rows.specs.declared.RowWords.{RowWords}
-use Rattle.rows.specs.Taken.{partPlace, partLength, tagGood, partGood, contentGood, rowGood}
-use Rattle.packet.specs.Rows.{rowValue}
+use Rattle.rows.specs.Taken.{partPlace, partLength, tagGood, partGood, contentGood, rowGood, GoodRow}
+use Rattle.packet.specs.Judge.{Knowing}
+use Rattle.packet.specs.Rows.{bytesAt, rowValue, pieceOf, piecesOf}
+use Rattle.writer.specs.code.Putting.{valueSaid, piecesSaid, CanPut}
 
-part-inside : (room code part : ℕ) → partGood room code part ≡ true → partPlace part + partLength part ≤ room
-part-inside room code part g = leb-true _ _ (both-right (eqb code 0) _ g)
+module _ (b : List ℕ) (r : RowWords) where
+  -- a number, and what is none
+  pub number-said : r .kind < 3 → valueSaid b r ≡ bytesOf (partLength (r .part)) (r .code)
+  number-said h = rw (lt-ltb (r .kind) 3 h)
 
-part-size : (b : List ℕ) (r : RowWords) → partGood (length b) (r .code) (r .part) ≡ true
-    → length (take (partLength (r .part)) (drop (partPlace (r .part)) b)) ≡ partLength (r .part)
-part-size b r g =
-    let h = part-inside (length b) (r .code) (r .part) g in
-    length-take-le (partLength (r .part)) (drop (partPlace (r .part)) b) (rw length-drop (omega arith))
+  pub part-said : 3 ≤ r .kind → valueSaid b r ≡ bytesAt b r
+  part-said h = rw (le-ltb (r .kind) 3 h)
 
-number-size : (w : ℕ) (m : Bool) (room : ℕ) (r : RowWords) → contentGood (Number w m) room r ≡ true → partLength (r .part) ≡ w
-number-size w m room r g = eqb-true _ _ (both-left (eqb (partLength (r .part)) w) _ g)
+  pub said-size : CanPut b r → length (valueSaid b r) ≡ partLength (r .part)
+  said-size p =
+      byLt (r .kind) 3 (λ h. rw (number-said h) (length-bytesOf _ _))
+      (λ h. rw (part-said h) (length-take-le _ (drop (partPlace (r .part)) b) (rw length-drop (omega (arith, p .inside h)))))
 
--- what a row of a shape points at
-abbrev pub Inside : Shape → List ℕ → RowWords → Type 0
-Inside (Number w m) b r = Unit {0}
-Inside Text b r = partPlace (r .part) + partLength (r .part) ≤ length b
-Inside Absent b r = partPlace (r .part) + partLength (r .part) ≤ length b
+  -- a row that is not bad, by its shape
+  pub record Said (s : Shape) : Type 0 where
+    pub can : CanPut b r
+    pub value : valueSaid b r ≡ rowValue s b r
 
-pub inside : (s t : Shape) (b : List ℕ) (r : RowWords) → s ≡ t → contentGood s (length b) r ≡ true → Inside t b r
-inside s (Number w m) b r e g = tt
-inside s Text b r e g = part-inside (length b) (r .code) (r .part) (rw e at g)
-inside s Absent b r e g = part-inside (length b) (r .code) (r .part) (rw e at g)
+  module _ (tagged : 0 < r .tag) where
+    pointed : (s : Shape) → 3 ≤ r .kind → partGood (length b) (r .code) (r .part) ≡ true → bytesAt b r ≡ rowValue s b r → Said s
+    pointed s h g e =
+        record {
+          can = record { tagged = tagged; inside = λ k. leb-true _ _ (both-right (eqb (r .code) 0) _ g) };
+          value = part-said h ∙ e;
+        }
 
-pub value-size : (s : Shape) (b : List ℕ) (r : RowWords) → contentGood s (length b) r ≡ true → length (rowValue s b r) ≡ partLength (r .part)
-value-size (Number w m) b r g = length-bytesOf w (r .code) ∙ sym (number-size w m (length b) r g)
-value-size Text b r g = part-size b r g
-value-size Absent b r g = part-size b r g
+    said-by : (s : Shape) → r .kind ≡ kindFor s (r .code) → contentGood s (length b) r ≡ true → Said s
+    said-by (Number w m) k g =
+        let small : r .kind < 3 = byBool (m && eqb (r .code) (markCode w)) (λ e. omega (arith, rw e at k)) (λ e. omega (arith, rw e at k)) in
+        let size : partLength (r .part) ≡ w = eqb-true _ _ (both-left (eqb (partLength (r .part)) w) _ g) in
+        record {
+          can = record { tagged = tagged; inside = λ h. absurd (omega arith) };
+          value = number-said small ∙ ap (λ n. bytesOf n (r .code)) size;
+        }
+    said-by Text k g = pointed Text (omega (arith, k)) g refl
+    said-by Absent k g = pointed Absent (omega (arith, k)) g refl
 
-pub number-value : (s : Shape) (w : ℕ) (m : Bool) (b : List ℕ) (r : RowWords) → s ≡ Number w m → contentGood s (length b) r ≡ true
-    → bytesOf (partLength (r .part)) (r .code) ≡ rowValue s b r
-number-value s w m b r e g = rw e (ap (λ n. bytesOf n (r .code)) (number-size w m (length b) r (rw e at g)))
+  said-good : (s : Shape) → rowGood s (length b) r ≡ true → Said s
+  unfolding rowGood
+  said-good s g =
+      let tag = both-left (tagGood (r .tag)) _ g in
+      let rest = both-right (tagGood (r .tag)) _ g in
+      said-by (ltb-true _ _ (both-left (ltb 0 (r .tag)) _ tag)) s (eqb-true _ _ (both-left (eqb (r .kind) (kindFor s (r .code))) _ rest))
+      (both-right (eqb (r .kind) (kindFor s (r .code))) _ rest)
 
-pub content-good : (s : Shape) (room : ℕ) (r : RowWords) → rowGood s room r ≡ true → contentGood s room r ≡ true
-unfolding rowGood
-content-good s room r g = both-right (eqb (r .kind) (kindFor s (r .code))) _ (both-right (tagGood (r .tag)) _ g)
+-- and rows of which none is bad
+module _ (K : Knowing) (b : List ℕ) where
+  pub all-can : (rs : List RowWords) → Each (GoodRow K b) rs → Each (CanPut b) rs
+  all-can [] g = tt
+  all-can (r ∷ rs) g = (said-good b r (shapeFor K (r .tag)) (g .0) .can, all-can rs (g .1))
 
-pub row-size : (s : Shape) (b : List ℕ) (r : RowWords) → rowGood s (length b) r ≡ true → length (rowValue s b r) ≡ partLength (r .part)
-row-size s b r g = value-size s b r (content-good s (length b) r g)
+  pub all-said : (rs : List RowWords) → Each (GoodRow K b) rs → piecesSaid b rs ≡ piecesOf K b rs
+  unfolding piecesSaid piecesOf pieceOf
+  all-said [] g = refl
+  all-said (r ∷ rs) g =
+      ap₂ (λ v cs. record { tag = r .tag; value = v } ∷ cs) (said-good b r (shapeFor K (r .tag)) (g .0) .value) (all-said rs (g .1))

@@ -1,21 +1,16 @@
 // The writer: from a table of rows to a packet in a lent output.
 // What is written reads back as the same table; a refusal leaves the whole output, and bytes after the packet stay.
-ghost use mathlib.Core.Path.{_≡_};
-ghost use mathlib.Core.Bool.{true};
-ghost use Prim.Native.Nat.{_+_, _≤_};
+ghost use Prim.Native.Nat.{_+_, _<_, _≤_};
 ghost use mathlib.Core.List.{_++_};
 ghost use lib.ListN.{length, take, drop};
 ghost use Rattle.number.specs.Stored.{bytesOf};
 ghost use Rattle.base.specs.Putting.{Room, Wrote};
-ghost use Rattle.ber.specs.Written.{lengthBytes};
-ghost use Rattle.tagset.specs.Sets.{holds};
-ghost use Rattle.rows.specs.Taken.{partLength, rowGood, contentGood};
+ghost use Rattle.ber.specs.Written.{tagBytes, lengthBytes};
+ghost use Rattle.rows.specs.Taken.{partLength};
 ghost use Rattle.packet.specs.Structure.{key};
-ghost use Rattle.packet.specs.Encode.{encode};
-ghost use Rattle.packet.specs.Rows.{rowValue};
+ghost use Rattle.packet.specs.Encode.{itemBytes, encode};
 ghost use Rattle.writer.specs.Writes.{Writes};
-ghost use Rattle.writer.specs.code.Putting.{rowBytes, tableBytes, tablePieces, Rows, Ready};
-use catalogue::Shape;
+ghost use Rattle.writer.specs.code.Putting.{valueSaid, pieceSaid, tableBytes, tablePieces, CanPut, Rows, Ready};
 use outgoing::Outgoing;
 use refusal::Reason;
 use refusal::Refusal;
@@ -43,55 +38,58 @@ fn copy(out: &mut [u8], at: usize, buffer: &[u8], place: usize, size: usize)
     }
 }
 
-// A row's value: the bytes of its code, or those that it points at.
-fn put_value(out: &mut [u8], at: usize, shape: Shape, row: RowWords, buffer: &[u8])
-    requires { ⌜ (contentGood shape (length (now buffer)) row ≡ true) × (at + partLength (row .part) ≤ length (now out)) ⌝ }
-    ensures { λ _. ⌜ Wrote (now (out .entry)) at (rowValue shape (now (buffer .entry)) row) (at + partLength (row .part)) (now (out .exit)) ⌝ }
+// A row's value, by its kind: the bytes of its code, or those that it points at.
+fn put_value(out: &mut [u8], at: usize, row: RowWords, buffer: &[u8])
+    requires { ⌜ CanPut (now buffer) row × (at + partLength (row .part) ≤ length (now out)) ⌝ }
+    ensures { λ _. ⌜ Wrote (now (out .entry)) at (valueSaid (now (buffer .entry)) row) (at + partLength (row .part)) (now (out .exit)) ⌝ }
 {
     let part = row.part;
     let place = (part / 65536) as usize;
     let size = (part % 65536) as usize;
-    match shape {
-        Shape::Number {
-            width: _,
-            marked: _,
-        } => put_number(out, at, size, row.code),
-        Shape::Text => copy(out, at, buffer, place, size),
-        Shape::Absent => copy(out, at, buffer, place, size),
+    if row.kind < rows::TEXT {
+        put_number(out, at, size, row.code);
+    } else {
+        copy(out, at, buffer, place, size);
     }
 }
 
+// What stands before a value, and the place after it: most have a tag and a length of one byte each.
+fn put_header(out: &mut [u8], at: usize, tag: u64, size: u64) -> usize
+    requires { ⌜ (0 < tag) × Room (now out) at (tagBytes tag ++ lengthBytes size) ⌝ }
+    ensures { λ r. ⌜ Wrote (now (out .entry)) at (tagBytes tag ++ lengthBytes size) r (now (out .exit)) ⌝ }
+{
+    if tag < 128 {
+        if size < 128 {
+            out[at] = tag as u8;
+            out[at + 1] = size as u8;
+            return at + 2;
+        }
+    }
+    let after = at + ber::put_tag(out, at, tag);
+    after + ber::put_length(out, after, size)
+}
+
 // A row's item, and the place after it.
-fn put_item(out: &mut [u8], at: usize, shape: Shape, row: RowWords, buffer: &[u8]) -> usize
-    requires { ⌜ (rowGood shape (length (now buffer)) row ≡ true) × Room (now out) at (rowBytes shape (now buffer) row) ⌝ }
-    ensures { λ r. ⌜ Wrote (now (out .entry)) at (rowBytes shape (now (buffer .entry)) row) r (now (out .exit)) ⌝ }
+fn put_item(out: &mut [u8], at: usize, row: RowWords, buffer: &[u8]) -> usize
+    requires { ⌜ CanPut (now buffer) row × Room (now out) at (itemBytes (pieceSaid (now buffer) row)) ⌝ }
+    ensures { λ r. ⌜ Wrote (now (out .entry)) at (itemBytes (pieceSaid (now (buffer .entry)) row)) r (now (out .exit)) ⌝ }
 {
     let size = row.part % 65536;
-    let after = at + ber::put_tag(out, at, row.tag);
-    let place = after + ber::put_length(out, after, size);
-    put_value(out, place, shape, row, buffer);
+    let place = put_header(out, at, row.tag, size);
+    put_value(out, place, row, buffer);
     place + size as usize
 }
 
 // All items, one after another, and the place after them.
-fn put_rows(
-    out: &mut [u8],
-    from: usize,
-    known: TagSet,
-    count: usize,
-    words: &[u64],
-    buffer: &[u8],
-) -> usize
-    requires { ⌜ Rows (holds known) (now buffer) count (now words) × Room (now out) from (tableBytes (holds known) (now buffer) count (now words)) ⌝ }
-    ensures { λ r. ⌜ Wrote (now (out .entry)) from (tableBytes (holds known) (now (buffer .entry)) count (now (words .entry))) r (now (out .exit)) ⌝ }
+fn put_rows(out: &mut [u8], from: usize, count: usize, words: &[u64], buffer: &[u8]) -> usize
+    requires { ⌜ Rows (now buffer) count (now words) × Room (now out) from (tableBytes (now buffer) count (now words)) ⌝ }
+    ensures { λ r. ⌜ Wrote (now (out .entry)) from (tableBytes (now (buffer .entry)) count (now (words .entry))) r (now (out .exit)) ⌝ }
 {
-    let column = catalogue::shapes();
     let mut at = from;
     let mut n: usize = 0;
     while n < count {
         let row = rows::row_at(words, n);
-        let shape = rows::shape_for(&column, known, row.tag);
-        at = put_item(out, at, shape, row, buffer);
+        at = put_item(out, at, row, buffer);
         n += 1;
     }
     at
@@ -108,20 +106,12 @@ fn put_head(out: &mut [u8], items: usize) -> usize
 }
 
 // The packet: what stands before the items, the items, and the checksum of all before its value.
-fn put_packet(
-    out: &mut [u8],
-    size: usize,
-    items: usize,
-    known: TagSet,
-    count: usize,
-    words: &[u64],
-    buffer: &[u8],
-)
-    requires { ⌜ Ready (holds known) (now buffer) count (now words) size items (length (now out)) ⌝ }
-    ensures { λ _. ⌜ Wrote (now (out .entry)) 0 (encode (tablePieces (holds known) (now (buffer .entry)) count (now (words .entry)))) size (now (out .exit)) ⌝ }
+fn put_packet(out: &mut [u8], size: usize, items: usize, count: usize, words: &[u64], buffer: &[u8])
+    requires { ⌜ Ready (now buffer) count (now words) size items (length (now out)) ⌝ }
+    ensures { λ _. ⌜ Wrote (now (out .entry)) 0 (encode (tablePieces (now (buffer .entry)) count (now (words .entry)))) size (now (out .exit)) ⌝ }
 {
     let from = put_head(out, items);
-    put_rows(out, from, known, count, words, buffer);
+    put_rows(out, from, count, words, buffer);
     let end = size - 2;
     let sum = checksum::checksum(&out[..end]) as u64;
     put_number(out, end, 2, sum);
@@ -153,7 +143,7 @@ pub fn write(known: TagSet, count: usize, words: &[u64], buffer: &[u8], out: &mu
                     tag: 0,
                 });
             }
-            put_packet(out, size, packed.items, known, count, words, buffer);
+            put_packet(out, size, packed.items, count, words, buffer);
             Writing::Packet(Written { size })
         }
     }

@@ -2,9 +2,12 @@
 -- Assumes nothing.
 use borrow.Author.Needs.{needs}
 use native.Mathlib.Omega.{arith}
-use mathlib.Core.Path.{sym, ap, _∙_}
+use mathlib.Core.Path.{_≡_, sym, ap, _∙_}
+use mathlib.Core.Bool.{true}
 use lib.ListN.{length}
 use Rattle.tagset.proofs.Laws.{Words}
+use Rattle.knowing.specs.Good.{good}
+use Rattle.rows.specs.Taken.{countGood}
 use Rattle.rows.proofs.Laws.{count-good}
 use Rattle.packet.specs.Said.{rightSaid}
 use Rattle.outgoing.proofs.Stages.{rows-good, rows-bad, too-many, not-good}
@@ -20,6 +23,13 @@ words c =
           omega (arith, c .before .before .before .before .before .before .good);
     }
 
+-- the set and the count
+set-good : (c : tie.Then1) → good (c .before .before .before .before .args .known) ≡ true
+set-good c = sym (c .before .is-good .ensures) ∙ c .if1 .taken
+
+count-fits : (c : tie.Then2) → (let a = c .before .before .before .before .before .before .args in countGood (a .count) (length (a .words .now)) ≡ true)
+count-fits c = sym (c .before .is-good-count .ensures) ∙ c .if2 .taken
+
 is-good-requires : tie.Need-is-good-requires
 is-good-requires c κs = search needs
 
@@ -29,8 +39,17 @@ is-good-count-requires c κs = search needs
 shapes-requires : tie.Need-shapes-requires
 shapes-requires c κs = search needs
 
+at-a-glance-requires : tie.Need-at-a-glance-requires
+at-a-glance-requires c κs = (c .before .shapes .ensures, count-good _ _ (count-fits (c .before .before)) .0)
+
+returns : tie.Need-returns
+returns c =
+    let k = c .before .before .before .before .before in
+    let fits = c .before .before .at-a-glance .ensures (c .if3 .taken) in
+    sym (rows-good _ (words k) _ _ _ (set-good (k .before .before)) (count-fits k) (fits .good) ∙ fits .fits)
+
 rows-right-requires : tie.Need-rows-right-requires
-rows-right-requires c κs = c .before .shapes .ensures
+rows-right-requires c κs = search needs
 
 enum-known-refusal : tie.Need-enum-known-refusal
 enum-known-refusal c = search needs
@@ -40,45 +59,37 @@ enum-told c = search needs
 
 sized-requires : tie.Need-sized-requires
 sized-requires c κs =
-    let k = c .before .before .before .before .before .before in
-    let a = k .before .before .before .before .before .before .args in (
-      c .before .before .before .before .before .shapes .ensures,
-      count-good (a .count) (length (a .words .now)) (sym (k .before .is-good-count .ensures)
-          ∙ k .if2 .taken) .0,
-    )
-
-returns : tie.Need-returns
-returns c =
-    let f = c .before .before .before in
-    let k = f .before .before .before in
-    sym (rows-bad _ (words k) _ _ _ (sym (k .before .before .before .is-good .ensures)
-    ∙ k .before .before .if1 .taken) (sym (k .before .is-good-count .ensures) ∙ k .if2 .taken) _ _ _
-    (sym (f .rows-right .ensures) ∙ ap rightSaid (c .before .refusal .given .1)))
+    let column = c .before .before .before .before .before .before .before .before in
+    (column .before .shapes .ensures, count-good _ _ (count-fits (column .before .before)) .0)
 
 returns-2 : tie.Need-returns-2
 returns-2 c =
+    let f = c .before .before .before in
+    let k = f .before .before .before .before .before .before .before in
+    sym (rows-bad _ (words k) _ _ _ (set-good (k .before .before)) (count-fits k) _ _ _ (sym (f .rows-right .ensures)
+    ∙ ap rightSaid (c .before .refusal .given .1)))
+
+returns-3 : tie.Need-returns-3
+returns-3 c =
     let f = c .before .before .before .before in
-    let k = f .before .before .before in
+    let k = f .before .before .before .before .before .before .before in
     c .sized .ensures
-    ∙ sym (rows-good _ (words k) _ _ _ (sym (k .before .before .before .is-good .ensures)
-    ∙ k .before .before .if1 .taken) (sym (k .before .is-good-count .ensures) ∙ k .if2 .taken)
-    (sym (f .rows-right .ensures) ∙ ap rightSaid (c .before .before .enum-told .given .1)))
+    ∙ sym (rows-good _ (words k) _ _ _ (set-good (k .before .before)) (count-fits k) (sym (f .rows-right .ensures)
+    ∙ ap rightSaid (c .before .before .enum-told .given .1)))
 
 refused-requires : tie.Need-refused-requires
 refused-requires c κs = search needs
 
-returns-3 : tie.Need-returns-3
-returns-3 c =
+returns-4 : tie.Need-returns-4
+returns-4 c =
     let k = c .before in
-    c .refused .ensures
-    ∙ sym (too-many _ _ _ _ (sym (k .before .before .before .is-good .ensures) ∙ k .before .before .if1 .taken) (sym (k .before .is-good-count .ensures)
-    ∙ k .if2 .left))
+    c .refused .ensures ∙ sym (too-many _ _ _ _ (set-good (k .before .before)) (sym (k .before .is-good-count .ensures) ∙ k .if2 .left))
 
 refused-requires-2 : tie.Need-refused-requires-2
 refused-requires-2 c κs = search needs
 
-returns-4 : tie.Need-returns-4
-returns-4 c = c .refused2 .ensures ∙ sym (not-good _ _ _ _ (sym (c .before .before .is-good .ensures) ∙ c .before .if1 .left))
+returns-5 : tie.Need-returns-5
+returns-5 c = c .refused2 .ensures ∙ sym (not-good _ _ _ _ (sym (c .before .before .is-good .ensures) ∙ c .before .if1 .left))
 
 pub check-rows-spec : {M : Type 1} → statement M
 check-rows-spec =
@@ -87,13 +98,15 @@ check-rows-spec =
     is-good-requires
     is-good-count-requires
     shapes-requires
+    at-a-glance-requires
+    returns
     rows-right-requires
     enum-known-refusal
     enum-told
     sized-requires
-    returns
     returns-2
-    refused-requires
     returns-3
+    refused-requires
+    returns-4
     refused-requires-2
-    returns-4)
+    returns-5)
