@@ -17,11 +17,15 @@ build() {
     quietly rt check "$@"
 }
 
+# Where the kit is.
+kit_folder() {
+    realpath "${RATTLE_HOME:-$(dirname "$(dirname "$(readlink -f "$(command -v rt)")")")}"
+}
+
 # Starts a built program as rt does: under the kit's loader, and where the processor is another than x86-64 under its emulator.
 start() {
-    local kit tools program
-    kit=${RATTLE_HOME:-$(dirname "$(dirname "$(readlink -f "$(command -v rt)")")")}
-    tools=$kit/on/$(uname -m)/toolchain
+    local tools program
+    tools=$(kit_folder)/on/$(uname -m)/toolchain
     program=("$tools/lib/ld-linux-x86-64.so.2" --library-path "$tools/lib" "target/bin/$1")
     [ ! -x "$tools/bin/qemu-x86_64" ] || program=("$tools/bin/qemu-x86_64" "${program[@]}")
     "${program[@]}" "${@:2}"

@@ -1,8 +1,14 @@
 //! Before times are compared, the library and the rival must give the same answers and leave the same memory.
 
+mod conversions;
+mod tables;
+
+pub use conversions::compare_conversions;
+pub use tables::compare_writers;
+
 use crate::packets::{self, Item};
-use crate::rival;
-use oysterknoll::{Knowing, Refusal, LONGEST_PACKET, TABLE_WORDS};
+use crate::rival::{self, ground};
+use oysterknoll::{Corner, Knowing, Refusal, LONGEST_PACKET, TABLE_WORDS};
 
 /// Numbers that look random, the same in every run.
 struct Dice(u64);
@@ -56,11 +62,13 @@ fn compare(packet: &[u8], lent: &Lent) -> Result<usize, String> {
     let check = oysterknoll::check(packet, knowing).map_err(in_numbers);
     let read = oysterknoll::read(packet, knowing, &mut table).map(|rows| rows.len());
     let forward = oysterknoll::forward(packet, knowing, &mut out).map_err(in_numbers);
+    let same_corner = |k| corner(packet, knowing, k) == rival::corner(packet, low, high, k);
     let agree = check == rival::check(packet, low, high)
         && read.map_err(in_numbers) == rival::read(packet, low, high, &mut rival_table)
         && forward == rival::forward(packet, low, high, &mut rival_out)
         && table == rival_table
-        && out == rival_out;
+        && out == rival_out
+        && (0..6).all(same_corner);
     if agree {
         Ok(forward.map_or_else(|refusal| refusal.number as usize, |_| 0))
     } else {
@@ -68,6 +76,16 @@ fn compare(packet: &[u8], lent: &Lent) -> Result<usize, String> {
             "the rival disagrees on {packet:02X?} with {lent:?}"
         ))
     }
+}
+
+/// The library's answer on a corner as the rival gives it.
+fn corner(packet: &[u8], knowing: Knowing, k: u64) -> Result<ground::Corner, rival::Refusal> {
+    let corner = oysterknoll::corner(packet, knowing, k).map_err(in_numbers)?;
+    Ok(match corner {
+        Corner::At(point) => ground::Corner::At(point.latitude, point.longitude),
+        Corner::OffTheEarth => ground::Corner::OffTheEarth,
+        _ => ground::Corner::Missing,
+    })
 }
 
 fn in_numbers(refusal: Refusal) -> rival::Refusal {
@@ -118,7 +136,7 @@ fn damaged_packet(dice: &mut Dice) -> Vec<u8> {
 
 fn damage_items(items: &mut Vec<Item>, dice: &mut Dice) {
     let (n, m) = (dice.throw(items.len()), dice.throw(items.len()));
-    match dice.throw(8) {
+    match dice.throw(10) {
         0 => drop(items.remove(n)),
         1 => items.insert(m, items[n].clone()),
         2 => items.swap(n, m),
@@ -130,7 +148,21 @@ fn damage_items(items: &mut Vec<Item>, dice: &mut Dice) {
             .resize([0, 1, 2, 3, 4, 5, 8, 127, 128, 256, 300][dice.throw(11)], 1),
         5 => items.extend((0..dice.throw(140)).map(|k| (100, vec![0; k % 3]))),
         6 => items.push(([34, 63][dice.throw(2)], vec![dice.throw(11) as u8])),
+        7 => mark(&mut items[n].1),
+        8 => {
+            items.extend((82..82 + dice.throw(9) as u64).map(|tag| (tag, vec![tag as u8; 4])));
+            let length = items.len();
+            mark(&mut items[length - 1 - dice.throw(4)].1);
+        }
         _ => items.extend((0..dice.throw(60)).map(|k| (128 + k as u64, vec![k as u8; 200]))),
+    }
+}
+
+/// The top bit alone, which is a mark where the item has one.
+fn mark(value: &mut [u8]) {
+    value.fill(0);
+    if let Some(first) = value.first_mut() {
+        *first = 0x80;
     }
 }
 

@@ -85,6 +85,19 @@ fn rival(operation: &str, packet: &[u8], times: usize) -> bool {
         "check" => repeat(times, || rival::check(packet(), low, high)),
         "read" => repeat(times, || rival::read(packet(), low, high, &mut table)),
         "forward" => repeat(times, || rival::forward(packet(), low, high, &mut out)),
+        "write" => {
+            let count = rival::read(packet(), low, high, &mut table).unwrap_or(0);
+            repeat(times, || {
+                rival::write(black_box(&table), count, packet(), low, high, &mut out)
+            })
+        }
+        "corner" => repeat(times, || rival::corner(packet(), low, high, black_box(1))),
+        "to_house" => repeat(times, || {
+            rival::to_house(black_box(13), black_box(0x42B3_963B))
+        }),
+        "to_code" => repeat(times, || {
+            rival::to_code(black_box(13), black_box(468_995_000))
+        }),
         _ => false,
     }
 }

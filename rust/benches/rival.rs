@@ -1,4 +1,12 @@
-//! A reader and a forwarder in plain safe Rust, written for speed alone: the yardstick beside the library.
+//! The library's operations but the listing in plain safe Rust, written for speed alone: the yardstick beside the library.
+
+pub mod ground;
+mod scale;
+mod writing;
+
+pub use ground::corner;
+pub use scale::{to_code, to_house};
+pub use writing::write;
 
 /// Why a packet is refused, in document 01's numbers.
 #[derive(Clone, Copy, PartialEq, Eq, Debug)]

@@ -8,7 +8,8 @@ use oysterknoll::{Knowing, LONGEST_LISTING, LONGEST_PACKET, TABLE_WORDS};
 use std::hint::black_box;
 use std::time::{Duration, Instant};
 
-const DAMAGED_PACKETS: usize = 5000;
+const DAMAGED: usize = 5000;
+const CODES: usize = 500;
 const ROUNDS: usize = 301;
 const BATCH: Duration = Duration::from_micros(100);
 
@@ -19,13 +20,10 @@ fn main() {
     let argument = std::env::args().find_map(|word| word.parse().ok());
     let rounds = argument.map_or(ROUNDS, |rounds: usize| rounds.max(1));
     let (kinds, sizes) = (with_names(&KINDS), with_names(&SIZES));
-    let whole = kinds.iter().chain(&sizes).map(|(_, packet)| packet);
-    match agreement::compare_all(whole, DAMAGED_PACKETS) {
-        Ok(met) => print_agreement(&met),
-        Err(difference) => {
-            eprintln!("speed: {difference}");
-            std::process::exit(1);
-        }
+    let whole: Vec<_> = kinds.iter().chain(&sizes).map(|kind| &kind.1).collect();
+    if let Err(difference) = compare(&whole) {
+        eprintln!("speed: {difference}");
+        std::process::exit(1);
     }
     print_operations(&kinds, rounds);
     print_sizes(&sizes, rounds);
@@ -36,20 +34,27 @@ fn with_names(names: &[&'static str]) -> Vec<(&'static str, Vec<u8>)> {
     names.iter().filter_map(packet).collect()
 }
 
-fn print_agreement(met: &[usize]) {
-    println!(
-        "The library and the rival agree on {} packets.",
-        met.iter().sum::<usize>()
-    );
-    let refusals = met
-        .iter()
-        .enumerate()
-        .skip(1)
-        .filter(|(_, &times)| times > 0);
-    let list: Vec<_> = refusals
+fn compare(whole: &[&Vec<u8>]) -> Result<(), String> {
+    let packets = agreement::compare_all(whole.iter().copied(), DAMAGED)?;
+    print_agreement("packets", "accepted", &packets);
+    let tables = agreement::compare_writers(whole.iter().copied(), DAMAGED)?;
+    print_agreement("tables", "written", &tables);
+    let conversions = agreement::compare_conversions(CODES)?;
+    println!("They agree on {conversions} conversions.\n");
+    Ok(())
+}
+
+fn print_agreement(what: &str, good: &str, met: &[usize]) {
+    let times = met.iter().enumerate().skip(1).filter(|met| *met.1 > 0);
+    let refusals: Vec<_> = times
         .map(|(number, times)| format!("{number} ({times})"))
         .collect();
-    println!("Accepted {}; by refusal: {}.\n", met[0], list.join(", "));
+    println!(
+        "The library and the rival agree on {} {what}: {} {good}; by refusal: {}.",
+        met.iter().sum::<usize>(),
+        met[0],
+        refusals.join(", ")
+    );
 }
 
 /// Nanoseconds of a call of each of the two, the median of many batches, which alternate so that both meet the same disturbances.
@@ -96,8 +101,11 @@ fn median(mut times: Vec<f64>) -> f64 {
     times[times.len() / 2]
 }
 
-/// The times of check, read and forward, each the library's and the rival's.
-fn contest(packet: &[u8], rounds: usize) -> [(&'static str, (f64, f64)); 3] {
+/// An operation, and the times of the library and of the rival.
+type Times = (&'static str, (f64, f64));
+
+/// The times of check, read and forward.
+fn contest(packet: &[u8], rounds: usize) -> [Times; 3] {
     let all = Knowing::ALL;
     let (low, high) = all.words();
     let (mut table, mut rival_table) = ([0; TABLE_WORDS], [0; TABLE_WORDS]);
@@ -121,23 +129,49 @@ fn contest(packet: &[u8], rounds: usize) -> [(&'static str, (f64, f64)); 3] {
     [("check", check), ("read", read), ("forward", forward)]
 }
 
-/// The times of the operations that have no rival; a packet that is refused has no rows to write.
-fn others(packet: &[u8], rounds: usize) -> Vec<(&'static str, f64)> {
+/// The times of corner and write; a packet that is refused has no rows to write.
+fn further_contest(packet: &[u8], rounds: usize) -> Vec<Times> {
     let all = Knowing::ALL;
-    let (mut table, mut out, mut listing) =
-        ([0; TABLE_WORDS], [0; LONGEST_PACKET], [0; LONGEST_LISTING]);
+    let (low, high) = all.words();
+    let mut table = [0; TABLE_WORDS];
+    let (mut out, mut rival_out) = ([0; LONGEST_PACKET], [0; LONGEST_PACKET]);
     let rows = oysterknoll::read(packet, all, &mut table).map(|rows| rows.len());
     let packet = || black_box(packet);
-    let list = alone(rounds, || oysterknoll::list(packet(), &mut listing));
-    let corner = alone(rounds, || oysterknoll::corner(packet(), all, black_box(1)));
-    let write = |rows| {
-        alone(rounds, || {
-            oysterknoll::write(black_box(&table), rows, packet(), all, &mut out)
-        })
-    };
-    let mut times = vec![("list", list), ("corner", corner)];
-    times.extend(rows.ok().map(write).map(|time| ("write", time)));
+    let corner = race(
+        rounds,
+        || oysterknoll::corner(packet(), all, black_box(1)),
+        || rival::corner(packet(), low, high, black_box(1)),
+    );
+    let write = rows.map(|rows| {
+        race(
+            rounds,
+            || oysterknoll::write(black_box(&table), rows, packet(), all, &mut out),
+            || rival::write(black_box(&table), rows, packet(), low, high, &mut rival_out),
+        )
+    });
+    let mut times = vec![("corner", corner)];
+    times.extend(write.ok().map(|write| ("write", write)));
     times
+}
+
+/// The times of the conversions.
+fn conversions(rounds: usize) -> [Times; 2] {
+    let (tag, code, value) = (
+        || black_box(13),
+        || black_box(0x42B3_963B),
+        || black_box(468_995_000),
+    );
+    let to_house = race(
+        rounds,
+        || oysterknoll::to_house(tag(), code()),
+        || rival::to_house(tag(), code()),
+    );
+    let to_code = race(
+        rounds,
+        || oysterknoll::to_code(tag(), value()),
+        || rival::to_code(tag(), value()),
+    );
+    [("to_house", to_house), ("to_code", to_code)]
 }
 
 fn print_operations(kinds: &[(&str, Vec<u8>)], rounds: usize) {
@@ -148,25 +182,26 @@ fn print_operations(kinds: &[(&str, Vec<u8>)], rounds: usize) {
     for (name, packet) in kinds {
         let bytes = packet.len();
         let rate = |time: f64| bytes as f64 * 1000.0 / time;
-        for (operation, (library, rival)) in contest(packet, rounds) {
+        let times = contest(packet, rounds).into_iter();
+        for (operation, (library, rival)) in times.chain(further_contest(packet, rounds)) {
             let (quick, rival_quick, ratio) = (rate(library), rate(rival), library / rival);
             println!("{name:8} {operation:8} {bytes:6} {library:11.1} {quick:7.0} {rival:11.1} {rival_quick:7.0} {ratio:7.2}");
         }
-        for (operation, library) in others(packet, rounds) {
-            println!(
-                "{name:8} {operation:8} {bytes:6} {library:11.1} {:7.0}",
-                rate(library)
-            );
-        }
+        let mut listing = [0; LONGEST_LISTING];
+        let list = alone(rounds, || {
+            oysterknoll::list(black_box(packet), &mut listing)
+        });
+        println!(
+            "{name:8} {:8} {bytes:6} {list:11.1} {:7.0}",
+            "list",
+            rate(list)
+        );
     }
-    let to_house = alone(rounds, || {
-        oysterknoll::to_house(black_box(13), black_box(0x42B3_963B))
-    });
-    let to_code = alone(rounds, || {
-        oysterknoll::to_code(black_box(13), black_box(468_995_000))
-    });
-    println!("{:8} {:8} {:6} {to_house:11.1}", "", "to_house", "");
-    println!("{:8} {:8} {:6} {to_code:11.1}\n", "", "to_code", "");
+    for (operation, (library, rival)) in conversions(rounds) {
+        let (blank, ratio) = ("", library / rival);
+        println!("{blank:8} {operation:8} {blank:6} {library:11.1} {blank:7} {rival:11.1} {blank:7} {ratio:7.2}");
+    }
+    println!();
 }
 
 /// The same kind of items in packets of growing size: the cost of a byte stays.

@@ -23,9 +23,9 @@
 //!
 //! # Linking
 //!
-//! The library is an archive of x86-64 machine code for Linux, the one target that proved code is compiled for; on another the build
-//! stops and says so. `rt staticlib oysterknoll` at the root of the repository makes it, and the crate finds it there. An archive that stands
-//! elsewhere is named by its folder in `OYSTERKNOLL_LIB_DIR`.
+//! The library is an archive of machine code for Linux on x86-64 or Arm; on another target the build stops and says so. At the root of
+//! the repository `rt staticlib oysterknoll` makes the first, `scripts/archive` both, and the crate finds the one for its target there. An
+//! archive that stands elsewhere is named by its folder in `OYSTERKNOLL_LIB_DIR`.
 //!
 //! # House units
 //!
