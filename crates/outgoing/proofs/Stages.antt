@@ -26,7 +26,7 @@ use Rattle.packet.specs.Ends.{rightEnds}
 use Rattle.packet.specs.Judge.{Knowing, has, among, Fault, clean, wrong, faultOf, Judged, fine, faulty, noVersion, later, onFault, judgeFrom, judge}
 use Rattle.packet.specs.Encode.{itemsBytes, encode}
 use Rattle.packet.specs.Rows.{rowsIn, pieceOf, piecesOf}
-use Rattle.packet.proofs.Tallies.{SeenBy, none-seen, one-seen}
+use Rattle.packet.proofs.Judging.{SeenBy, none-seen, one-seen}
 use Rattle.packet.proofs.Faults.{sixty-three}
 use Rattle.laws.proofs.Written.{length-item, length-encode}
 use Rattle.laws.proofs.Rows.{good-made}
