@@ -29,7 +29,8 @@ use Rattle.packet.specs.Verdict.{startOf, placed, judged, bodyOf, verdic
 use Rattle.packet.specs.Said.{headerAt}
 use Rattle.packet.specs.code.Headers.{headerOf}
 use Rattle.packet.specs.code.Passing.{Kept, kept, freshAt, keptFrom, Passes}
-use Rattle.packet.specs.code.Concluded.{begunBy, noHeader, headerIn, endsBy, closedBy, itemsAt, bare, rightFrom, judgedFrom, codedIn, cleanIn, PastIn, Whole, Begins}
+use Rattle.packet.specs.code.Concluded.{begunBy, noHeader, headerIn, endsBy, closedBy, itemsAt, bare, rightFrom, judgedFrom}
+use Rattle.packet.specs.code.Concluded.{codedIn, cleanIn, PastIn, Whole, Begins}
 use Rattle.packet.specs.declared.Header.{Header}
 use Rattle.packet.specs.declared.Passed.{Passed}
 use Rattle.packet.specs.declared.Accepted.{Accepted}
@@ -211,8 +212,11 @@ module _ (K : TagSet) (words : Words K) (p : List ℕ) (by : Bytes p) (from : �
   right-given e =
       let a = map-given (λ _. tt) walkedAnswer (sym by-right ∙ e) in
       let b = accepts K p (w .items) (a .0) (a .1) in
-      let count : length (w .items) ≡ r .count = sym (zero-add (length (w .items))) ∙ sym (kept-count K (freshAt from noPast) (w .items)) ∙ ap (λ k. k .passed .count) (w .keeps) in
-      let longer : longerOf (w .items) ≡ r .longer = sym (zero-add (longerOf (w .items))) ∙ sym (kept-longer K (freshAt from noPast) (w .items)) ∙ ap (λ k. k .passed .longer) (w .keeps) in
+      let fresh = freshAt from noPast in
+      let count : length (w .items) ≡ r .count =
+      sym (kept-count K fresh (w .items) ∙ zero-add (length (w .items))) ∙ ap (λ k. k .passed .count) (w .keeps) in
+      let longer : longerOf (w .items) ≡ r .longer =
+      sym (kept-longer K fresh (w .items) ∙ zero-add (longerOf (w .items))) ∙ ap (λ k. k .passed .longer) (w .keeps) in
       by-items ∙ (ap (map bodyOf) (a .1 ∙ ap given (b .same)) ∙ rw (starts (w .items) went-all (b .ends), count, longer))
 
   pub past-items : past ≡ pastFrom noPast (itemsAt p from)

@@ -164,7 +164,10 @@ module _ (K : TagSet) (good : Good K) (w : Words K) where
   known-there t e = listed (itemOf t) (good .only t e)
     where
       listed : (f : Found) → isKnown f ≡ true → shapeBy f ≡ Absent → ⊥
-      listed (Known i) k a = byBool (eqb (i .width) 0) (λ b. let z : Text ≡ Absent = rw b at a in never (cc)) (λ b. let z : Number (i .width) (isMarked (i .sign)) ≡ Absent = rw b at a in never (cc))
+      listed (Known i) k a =
+          byBool (eqb (i .width) 0)
+          (λ b. let z : Text ≡ Absent = rw b at a in never (cc))
+          (λ b. let z : Number (i .width) (isMarked (i .sign)) ≡ Absent = rw b at a in never (cc))
       listed Found.Absent k a = clash (sym k)
 
   -- a known item that is met again looks wrong

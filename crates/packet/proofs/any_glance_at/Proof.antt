@@ -39,14 +39,12 @@ one-byte-requires-2 c κs = search needs
 
 -- src/lib.rt:274:19
 -- the item that was found
-found : (c : tie.After-struct-known)
-    → headerAt (c .before .before .before .before .before .before .before .before .args .packet .now) (c .before .before .before .before .before .before .before .before .args .at)
-    ≡ given (c .before .before .before .before .item .given .0 .0)
+found : (c : tie.After-struct-known) → (let a = c .before .before .before .before .before .before .before .before .args in
+    headerAt (a .packet .now) (a .at) ≡ given (c .before .before .before .before .item .given .0 .0))
 found c = sym (c .before .before .before .before .before .before .any-item-at .ensures) ∙ ap stepSaid (c .before .before .before .before .item .given .1)
 
-lies : (c : tie.After-struct-known)
-    → Lies (c .before .before .before .before .before .before .before .before .args .packet .now) (c .before .before .before .before .before .before .before .before .args .at)
-    (c .before .before .before .before .item .given .0 .0)
+lies : (c : tie.After-struct-known) → (let a = c .before .before .before .before .before .before .before .before .args in
+    Lies (a .packet .now) (a .at) (c .before .before .before .before .item .given .0 .0))
 lies c = header-lies _ _ (record { byte = λ i. c .before .before .before .before .before .before .before .shared-slice-known .given i .fits }) _ (found c)
 
 add-t11 : tie.Need-add-t11
@@ -62,7 +60,8 @@ returns c = glance-none _ _ _ _ _ (sym (c .before .before .any-item-at .ensures)
 
 -- src/lib.rt:261:1
 returns-2 : tie.Need-returns-2
-returns-2 c = let d = c .before in
+returns-2 c =
+    let d = c .before in
     let k = d .before .before .before .before .before .before .before in
     rw (c .longer-by .ensures, c .before .before .one-byte2 .ensures, c .before .before .before .one-byte .ensures)
     (glance-item _ _ (record { byte = λ i. k .shared-slice-known .given i .fits }) _ (found d))

@@ -23,7 +23,9 @@ returns : tie.Need-returns
 returns c = sym (checked-begun _ _ _ (sym (c .before .before .before .begun .ensures) ∙ ap frameSaid (c .before .refusal .given .1)))
 
 returns-2 : tie.Need-returns-2
-returns-2 c = c .check-from .ensures .says ∙ sym (checked-begun _ _ _ (sym (c .before .before .before .before .before .begun .ensures) ∙ ap frameSaid (c .before .before .before .from .given .1)))
+returns-2 c =
+    let d = c .before .before .before in
+    c .check-from .ensures .says ∙ sym (checked-begun _ _ _ (sym (d .before .before .begun .ensures) ∙ ap frameSaid (d .from .given .1)))
 
 pub check-spec : {M : Type 1} → statement M
 check-spec =

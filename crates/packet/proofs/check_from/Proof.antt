@@ -18,7 +18,8 @@ bytes : (c : tie.After-pass) → Bytes (c .before .before .before .args .packet 
 bytes c = record { byte = λ i. c .before .before .shared-slice-known .given i .fits }
 
 pass-requires : tie.Need-pass-requires
-pass-requires c κs = let k = c .before .before .pre in (k .some, k .short, k .inside)
+pass-requires c κs =
+    let k = c .before .before .pre in (k .some, k .short, k .inside)
 
 stopped-requires : tie.Need-stopped-requires
 stopped-requires c κs = c .before .pass .ensures .stops (c .if1 .taken)
@@ -39,15 +40,18 @@ enum-told : tie.Need-enum-told
 enum-told c = search needs
 
 returns-2 : tie.Need-returns-2
-returns-2 c = let p = c .before .before .before .before .before .before in
+returns-2 c =
+    let p = c .before .before .before .before .before .before in
     let w = passes-whole _ _ _ _ (p .before .before .before .pre) _ _ (p .pass .ensures) (c .before .before .before .before .before .if1 .left) in
+    let e = sym (c .before .before .before .concluded .ensures) ∙ ap rightSaid (c .before .refusal .given .1) in
     record {
-      says = sym (right-refused _ (words p) _ (bytes p) _ _ _ w _ _ _ (sym (c .before .before .before .concluded .ensures) ∙ ap rightSaid (c .before .refusal .given .1)));
+      says = sym (right-refused _ (words p) _ (bytes p) _ _ _ w _ _ _ e);
       places = λ a f. not-given f;
     }
 
 returns-3 : tie.Need-returns-3
-returns-3 c = let p = c .before .before .before .before .before in
+returns-3 c =
+    let p = c .before .before .before .before .before in
     let w = passes-whole _ _ _ _ (p .before .before .before .pre) _ _ (p .pass .ensures) (c .before .before .before .before .if1 .left) in
     record {
       says = sym (right-given _ (words p) _ (bytes p) _ _ _ w (sym (c .before .before .concluded .ensures) ∙ ap rightSaid (c .enum-told .given .1)));

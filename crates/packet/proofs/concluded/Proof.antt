@@ -35,26 +35,32 @@ enum-told : tie.Need-enum-told
 enum-told c = search needs
 
 is-clean-requires : tie.Need-is-clean-requires
-is-clean-requires c κs = let d = c .before .before .before in past-inside _ (words d) _ (bytes d) _ _ _ (d .before .before .pre)
+is-clean-requires c κs =
+    let d = c .before .before .before in past-inside _ (words d) _ (bytes d) _ _ _ (d .before .before .pre)
 
 returns : tie.Need-returns
-returns c = let d = c .before .before .before .before .before in
+returns c =
+    let d = c .before .before .before .before .before in
     let w = d .before .before .pre in
     sym (right-by _ (words d) _ (bytes d) _ _ _ w
     ∙ rw (sym (ended (c .before .before .before .before)) ∙ ap rightSaid (c .before .before .enum-told .given .1))
     (clean-right _ (words d) _ (bytes d) _ _ _ w (sym (c .before .is-clean .ensures) ∙ c .if1 .taken)))
 
 judged-requires : tie.Need-judged-requires
-judged-requires c κs = let w = c .before .before .before .before .before .before .before .pre in record { items = w .items; walked = w .walked }
+judged-requires c κs =
+    let w = c .before .before .before .before .before .before .before .pre in record { items = w .items; walked = w .walked }
 
 returns-2 : tie.Need-returns-2
-returns-2 c = let d = c .before .before .before .before in
-    sym (right-by _ (words d) _ (bytes d) _ _ _ (d .before .before .pre) ∙ rw (sym (ended (c .before .before .before)) ∙ ap rightSaid (c .before .refusal .given .1)))
+returns-2 c =
+    let d = c .before .before .before .before in
+    let e = sym (ended (c .before .before .before)) ∙ ap rightSaid (c .before .refusal .given .1) in
+    sym (right-by _ (words d) _ (bytes d) _ _ _ (d .before .before .pre) ∙ rw e)
 
 returns-3 : tie.Need-returns-3
-returns-3 c = let d = c .before .before .before .before .before .before in
-    c .judged .ensures
-    ∙ sym (right-by _ (words d) _ (bytes d) _ _ _ (d .before .before .pre) ∙ rw (sym (ended (c .before .before .before .before .before)) ∙ ap rightSaid (c .before .before .before .enum-told .given .1)))
+returns-3 c =
+    let d = c .before .before .before .before .before .before in
+    let e = sym (ended (c .before .before .before .before .before)) ∙ ap rightSaid (c .before .before .before .enum-told .given .1) in
+    c .judged .ensures ∙ sym (right-by _ (words d) _ (bytes d) _ _ _ (d .before .before .pre) ∙ rw e)
 
 pub concluded-spec : {M : Type 1} → statement M
 concluded-spec =

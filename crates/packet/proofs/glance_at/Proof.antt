@@ -54,10 +54,15 @@ add-t6 : tie.Need-add-t6
 add-t6 c = search needs
 
 add-t7 : tie.Need-add-t7
-add-t7 c = omega (arith, or-right (getD (c .before .before .before .before .before .before .before .before .args .packet .now) (c .before .before .before .before .before .before .before .before .args .at) 0) (getD (c .before .before .before .before .before .before .before .before .args .packet .now) (c .before .before .before .before .before .before .before .before .args .at + 1) 0) (c .before .if2 .left))
+add-t7 c =
+    let a = c .before .before .before .before .before .before .before .before .args in
+    omega (arith, or-right (getD (a .packet .now) (a .at) 0) (getD (a .packet .now) (a .at + 1) 0) (c .before .if2 .left))
 
 returns-4 : tie.Need-returns-4
-returns-4 c = glance-short _ _ (c .before .before .before .before .before .before .if1 .left) (c .before .before .before .before .before .before .before .before .pre) (c .if3 .left) (c .before .if2 .left) (record { byte = λ i. c .before .before .before .shared-slice-known4 .given i .fits })
+returns-4 c =
+    let f = c .before .before .before .before .before .before in
+    glance-short _ _ (f .if1 .left) (f .before .before .pre) (c .if3 .left) (c .before .if2 .left)
+    (record { byte = λ i. c .before .before .before .shared-slice-known4 .given i .fits })
 
 pub glance-at-spec : {M : Type 1} → statement M
 glance-at-spec =

@@ -27,12 +27,16 @@ is-coded-requires-2 c κs = (omega arith, c .before .before .before .before .bef
 
 returns-3 : tie.Need-returns-3
 unfolding cleanIn
-returns-3 c = c .is-coded2 .ensures
-    ∙ sym (rw (c .before .before .before .before .before .if1 .left, ne-eqb _ _ (c .before .before .before .if2 .left), sym (c .before .before .is-coded .ensures) ∙ c .before .if3 .taken))
+returns-3 c =
+    let d = c .before .before .before in
+    c .is-coded2 .ensures
+    ∙ sym (rw (d .before .before .if1 .left, ne-eqb _ _ (d .if2 .left), sym (c .before .before .is-coded .ensures) ∙ c .before .if3 .taken))
 
 returns-4 : tie.Need-returns-4
 unfolding cleanIn
-returns-4 c = sym (rw (c .before .before .before .before .if1 .left, ne-eqb _ _ (c .before .before .if2 .left), sym (c .before .is-coded .ensures) ∙ c .if3 .left))
+returns-4 c =
+    let d = c .before .before in
+    sym (rw (d .before .before .if1 .left, ne-eqb _ _ (d .if2 .left), sym (c .before .is-coded .ensures) ∙ c .if3 .left))
 
 pub is-clean-spec : {M : Type 1} → statement M
 is-clean-spec =

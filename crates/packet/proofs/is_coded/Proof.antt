@@ -31,8 +31,10 @@ allows-code-requires : tie.Need-allows-code-requires
 allows-code-requires c κs = search needs
 
 returns : tie.Need-returns
-returns c = c .allows-code .ensures
-    ∙ sym (rw (lt-ltb _ _ (c .before .before .before .before .before .if1 .taken), sym (c .before .before .before .before .has .ensures) ∙ c .before .before .before .if2 .taken, ← c .before .wide .ensures .0))
+returns c =
+    let h = c .before .before .before .before in
+    c .allows-code .ensures
+    ∙ sym (rw (lt-ltb _ _ (h .before .if1 .taken), sym (h .has .ensures) ∙ c .before .before .before .if2 .taken, ← c .before .wide .ensures .0))
 
 returns-2 : tie.Need-returns-2
 returns-2 c = sym (rw (lt-ltb _ _ (c .before .before .if1 .taken), sym (c .before .has .ensures) ∙ c .if2 .left))

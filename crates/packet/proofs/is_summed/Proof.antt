@@ -4,6 +4,7 @@ use mathlib.Core.Path.{sym, ap₂}
 use native.Mathlib.Omega.{arith}
 use lib.Dec.{eqb}
 use lib.Seq.{length-take-le}
+use Rattle.number.specs.Stored.{Bytes}
 use Rattle.packet.proofs.Closing.{two-bytes}
 use borrow.Author.Needs.{needs}
 use Rattle.packet.proofs.is_summed.Statement.{statement}
@@ -34,8 +35,10 @@ cast-sum : tie.Need-cast-sum
 cast-sum c = search needs
 
 returns : tie.Need-returns
-returns c = let k = c .before .before .before .before in
-    let stored = two-bytes _ (k .before .args .place) (record { byte = λ i. k .shared-slice-known .given i .fits }) (k .before .pre) _ (c .before .before .value .ensures) in
+returns c =
+    let k = c .before .before .before .before in
+    let bytes : Bytes (k .before .args .packet .now) = record { byte = λ i. k .shared-slice-known .given i .fits } in
+    let stored = two-bytes _ (k .before .args .place) bytes (k .before .pre) _ (c .before .before .value .ensures) in
     ap₂ eqb stored (c .checksum .ensures)
 
 pub is-summed-spec : {M : Type 1} → statement M

@@ -59,8 +59,10 @@ enum-known-reason : tie.Need-enum-known-reason Inv-loop μ-loop
 enum-known-reason c = search needs
 
 returns-2 : tie.Need-returns-2 Inv-loop μ-loop
-returns-2 c = let l = c .before .before .before .before .before .before .before .before .before .before in
-    judges-wrong _ (words l) _ _ _ _ (l .loop .inv) (c .before .before .before .before .before .before .before .before .before .loop-test .taken) _ (found (c .before .before .before .before .before .before)) _
+returns-2 c =
+    let l = c .before .before .before .before .before .before .before .before .before .before in
+    let f = c .before .before .before .before .before .before in
+    judges-wrong _ (words l) _ _ _ _ (l .loop .inv) (f .before .before .before .loop-test .taken) _ (found f) _
     (ap faultSaid (sym (c .before .reason .given .1)) ∙ c .before .before .before .fault-at .ensures)
 
 enum-told : tie.Need-enum-told Inv-loop μ-loop
@@ -70,26 +72,32 @@ with-tag-requires : tie.Need-with-tag-requires Inv-loop μ-loop
 with-tag-requires c κs = search needs
 
 add-here : tie.Need-add-here Inv-loop μ-loop
-add-here c = omega (arith, lies (c .before .before .before .before .before .before .before) .inside, c .before .before .before .before .before .before .before .before .before .before .before .before .before .before .good)
+add-here c =
+    let f = c .before .before .before .before .before .before .before in
+    omega (arith, lies f .inside, f .before .before .before .before .before .before .before .good)
 
 loop-less : tie.Need-loop-less Inv-loop μ-loop
 loop-less c = omega (arith, lies (c .before .before .before .before .before .before .before))
 
 loop-again : tie.Need-loop-again Inv-loop μ-loop
-loop-again c = let l = c .before .before .before .before .before .before .before .before .before .before .before in
+loop-again c =
+    let l = c .before .before .before .before .before .before .before .before .before .before .before in
+    let f = c .before .before .before .before .before .before .before in
     rw (c .before .with-tag .ensures)
-    (judges-clean _ (words l) _ _ _ _ (l .loop .inv) (c .before .before .before .before .before .before .before .before .before .before .loop-test .taken) _ (found (c .before .before .before .before .before .before .before))
+    (judges-clean _ (words l) _ _ _ _ (l .loop .inv) (f .before .before .before .loop-test .taken) _ (found f)
     (ap faultSaid (sym (c .before .before .enum-told .given .1)) ∙ c .before .before .before .before .fault-at .ensures))
 
 has-requires : tie.Need-has-requires Inv-loop μ-loop
 has-requires c κs = search needs
 
 returns-3 : tie.Need-returns-3 Inv-loop μ-loop
-returns-3 c = let l = c .before .before .before in
+returns-3 c =
+    let l = c .before .before .before in
     rw (sym (c .before .has .ensures) ∙ c .if1 .taken) at (judges-end _ (words l) _ _ _ _ (l .loop .inv) (c .before .before .loop-test .left))
 
 returns-4 : tie.Need-returns-4 Inv-loop μ-loop
-returns-4 c = let l = c .before .before .before in
+returns-4 c =
+    let l = c .before .before .before in
     rw (sym (c .before .has .ensures) ∙ c .if1 .left) at (judges-end _ (words l) _ _ _ _ (l .loop .inv) (c .before .before .loop-test .left))
 
 pub judged-spec : {M : Type 1} → statement M

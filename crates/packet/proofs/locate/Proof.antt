@@ -27,11 +27,14 @@ enum-told-2 : tie.Need-enum-told-2
 enum-told-2 c = search needs
 
 returns : tie.Need-returns
-returns c = let e = checked-begun _ _ _ (sym (c .before .before .before .begun .ensures) ∙ ap frameSaid (c .before .refusal .given .1)) in
+returns c =
+    let e = checked-begun _ _ _ (sym (c .before .before .before .begun .ensures) ∙ ap frameSaid (c .before .refusal .given .1)) in
     record { says = sym e; places = sym (located-refused _ _ _ _ _ e) }
 
 returns-2 : tie.Need-returns-2
-returns-2 c = let b = sym (c .before .before .before .before .before .before .before .begun .ensures) ∙ ap frameSaid (c .before .before .before .before .before .from .given .1) in
+returns-2 c =
+    let d = c .before .before .before .before .before in
+    let b = sym (d .before .before .begun .ensures) ∙ ap frameSaid (d .from .given .1) in
     let e = c .before .before .check-from .ensures .says ∙ sym (checked-begun _ _ _ b) in
     let f = ap checkSaid (c .enum-told .given .1) in
     record {
@@ -40,7 +43,9 @@ returns-2 c = let b = sym (c .before .before .before .before .before .before .be
     }
 
 returns-3 : tie.Need-returns-3
-returns-3 c = let b = sym (c .before .before .before .before .before .before .before .begun .ensures) ∙ ap frameSaid (c .before .before .before .before .before .from .given .1) in
+returns-3 c =
+    let d = c .before .before .before .before .before in
+    let b = sym (d .before .before .begun .ensures) ∙ ap frameSaid (d .from .given .1) in
     let e = c .before .before .check-from .ensures .says ∙ sym (checked-begun _ _ _ b) in
     record { says = e; places = sym (located-refused _ _ _ _ _ (sym e ∙ ap checkSaid (c .enum-told2 .given .1))) }
 

@@ -28,7 +28,8 @@ knows-requires c κs = (c .before .before .before .pre .1, c .before .before .be
 
 returns : tie.Need-returns
 unfolding looksWrong widthIn
-returns c = let a = c .before .before .before .before .args in
+returns c =
+    let a = c .before .before .before .before .args in
     let b = getD (a .column .now) (a .item .tag) 0 in
     rw (c .knows .ensures, same-both (eqb (a .item .size) (bitAnd b 15)) (eqb (bitAnd b 15) 0), and-mask b 4, ← c .before .before .before .before .pre .0)
 

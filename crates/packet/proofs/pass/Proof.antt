@@ -2,10 +2,11 @@
 -- Assumes nothing.
 use Prim.Native.Nat.{_-_, _<_}
 use native.Mathlib.Omega.{arith}
+use mathlib.Core.List.{[], _∷_}
 use lib.ListN.{length, getD}
 use Rattle.number.specs.Stored.{Bytes}
 use Rattle.tagset.specs.Sets.{knowing}
-use Rattle.packet.specs.code.Passing.{SeenAt}
+use Rattle.packet.specs.code.Passing.{SeenAt, TwoWords}
 use Rattle.packet.proofs.Walks.{header-lies}
 use Rattle.packet.proofs.Passing.{Going, going-begin, going-glance, withGlance, short-tag}
 use borrow.Author.Needs.{needs}
@@ -52,7 +53,8 @@ loop-holds : tie.Need-loop-holds Inv-loop μ-loop
 loop-holds c = going-begin _ _ _ _
 
 returns : tie.Need-returns Inv-loop μ-loop
-returns c = let l = c .before .before .loop in
+returns c =
+    let l = c .before .before .loop in
     record {
       few = l .inv .few;
       goes = l .inv .goes;
@@ -63,7 +65,8 @@ glance-at-requires : tie.Need-glance-at-requires Inv-loop μ-loop
 glance-at-requires c κs = c .before .before .before .before .before .pre .0
 
 returns-2 : tie.Need-returns-2 Inv-loop μ-loop
-returns-2 c = let l = c .before .before .before .before .loop in
+returns-2 c =
+    let l = c .before .before .before .before .loop in
     record {
       few = l .inv .few;
       goes = l .inv .goes;
@@ -71,11 +74,15 @@ returns-2 c = let l = c .before .before .before .before .loop in
     }
 
 looks-wrong-requires : tie.Need-looks-wrong-requires Inv-loop μ-loop
-looks-wrong-requires c κs = let k = c .before .before .before .before .before .before .before .before .before .before in
-    (c .before .before .before .before .before .before .before .before .shapes .ensures, record { low = omega (arith, k .good); high = omega (arith, k .good) }, small-tag (c .before .before .before))
+looks-wrong-requires c κs =
+    let k = c .before .before .before .before .before .before .before .before .before .before in
+    let words : TwoWords (k .args .known .low ∷ k .args .known .high ∷ []) = record { low = omega (arith, k .good); high = omega (arith, k .good) } in
+    (c .before .before .before .before .before .before .before .before .shapes .ensures, words, small-tag (c .before .before .before))
 
 cast-past : tie.Need-cast-past Inv-loop μ-loop
-cast-past c = omega (arith, c .before .before .before .before .if2 .left, c .before .before .before .before .before .before .before .before .before .before .before .pre .1)
+cast-past c =
+    let e = c .before .before .before .before in
+    omega (arith, e .if2 .left, e .before .before .before .before .before .before .before .pre .1)
 
 mul-past : tie.Need-mul-past Inv-loop μ-loop
 mul-past c = omega (arith, small-tag (c .before .before .before .before))
@@ -87,16 +94,21 @@ add-count : tie.Need-add-count Inv-loop μ-loop
 add-count c = omega (arith, c .before .before .before .before .before .before .before .before .loop .inv .few)
 
 add-longer : tie.Need-add-longer Inv-loop μ-loop
-add-longer c = omega (arith, stepped (c .before .before .before .before .before) .less, c .before .before .before .before .before .if2 .left, c .before .before .before .before .before .before .before .before .before .before .before .before .pre .1)
+add-longer c =
+    let e = c .before .before .before .before .before in
+    omega (arith, stepped e .less, e .if2 .left, e .before .before .before .before .before .before .before .pre .1)
 
 loop-less : tie.Need-loop-less Inv-loop μ-loop
-loop-less c = omega (arith, onward (c .before .before .before .before .before), c .before .before .before .before .before .before .before .before .loop-test .taken)
+loop-less c =
+    let e = c .before .before .before .before .before in
+    omega (arith, onward e, e .before .before .before .loop-test .taken)
 
 loop-again : tie.Need-loop-again Inv-loop μ-loop
 loop-again c = rw (c .before .looks-wrong .ensures) (stepped (c .before .before .before .before .before))
 
 returns-3 : tie.Need-returns-3 Inv-loop μ-loop
-returns-3 c = let l = c .before .loop in
+returns-3 c =
+    let l = c .before .loop in
     record { few = l .inv .few; goes = l .inv .goes; stops = λ h. absurd (omega (arith, c .loop-test .left)) }
 
 pub pass-spec : {M : Type 1} → statement M
