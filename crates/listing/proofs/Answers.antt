@@ -27,7 +27,7 @@ use Rattle.packet.specs.Rows.{rowOf, rowsOf, rowsIn}
 use Rattle.laws.proofs.Accepted.{accepted-allowed}
 use Rattle.laws.proofs.Sent.{Lies, formed-lie}
 use Rattle.refusal.proofs.Answers.{passed}
-use Rattle.laws.proofs.Tables.{Received, has-received, received-refused}
+use Rattle.laws.proofs.Tables.{Received, has-received, received-refused, items-count}
 use Rattle.reader.specs.Reads.{Reads, readSaid}
 use Rattle.reader.specs.declared.Reading.{Reading}
 use Rattle.reader.specs.declared.Reading.the-variants as reading
@@ -100,4 +100,9 @@ module _ {K : TagSet} (k : K ≡ allTags) {p : List ℕ} {r : Reading} {t : List
         let known = passed (good allTags) _ 1 0 0 (read .accepted) .1 in
         let f : Formed p (read .items) = accepted-allowed K p (read .items) by known .formed in
         rw same-rows
-        (record { inside = rows-inside K p (read .items) (formed-lie p (read .items) f); short = rows-short K p (f .small) (read .items) f })
+        (record {
+          inside = rows-inside K p (read .items) (formed-lie p (read .items) f);
+          few = rw (items-count K (read .items)) (f .few);
+          small = f .small;
+          short = rw (items-count K (read .items)) (rows-short K p (f .small) (read .items) f);
+        })

@@ -2,6 +2,7 @@
 // The contract gives every byte; an output that is too short is left as it was.
 ghost use mathlib.Core.Path.{_≡_};
 ghost use mathlib.Core.List.{_++_};
+ghost use lib.Dec.{leb};
 ghost use lib.ListN.{length};
 ghost use Rattle.base.specs.Putting.{Room, Wrote};
 ghost use Rattle.refusal.specs.Numbers.{number};
@@ -183,17 +184,30 @@ fn too_short() -> Listing
     })
 }
 
+// Whether the header and the lines fit: by the most that so many lines take, and only where that is more than there is by their size.
+fn lines_fit(packet: &[u8], words: &[u64], count: usize, room: usize) -> bool
+    requires { ⌜ Listable (now packet) (rowsIn 0 count (now words)) ⌝ }
+    ensures { λ r. ⌜ r ≡ leb (length (header ++ linesOf (now (packet .entry)) (rowsIn 0 count (now (words .entry))))) room ⌝ }
+{
+    let most = 21 + 42 * count + 2 * packet.len();
+    if most <= room {
+        return true;
+    }
+    let size = 21 + lines_size(packet, words, count);
+    size <= room
+}
+
 // The header and a line for each row.
 fn list_rows(packet: &[u8], words: &[u64], count: usize, out: &mut [u8]) -> Listing
     requires { ⌜ Listable (now packet) (rowsIn 0 count (now words)) ⌝ }
     ensures { λ r. ⌜ Lists (header ++ linesOf (now (packet .entry)) (rowsIn 0 count (now (words .entry)))) (now (out .entry)) r (now (out .exit)) ⌝ }
 {
-    let size = 21 + lines_size(packet, words, count);
-    if out.len() < size {
+    let fit = lines_fit(packet, words, count, out.len());
+    if !fit {
         return too_short();
     }
     let from = put_word(out, 0, b"place\ttag\tkind\tvalue\n");
-    put_lines(out, from, packet, words, count);
+    let size = put_lines(out, from, packet, words, count);
     Listing::Lines(Listed { size })
 }
 
