@@ -13,6 +13,7 @@ ghost use Rattle.spelling.specs.Spelling.{decimal, hex};
 ghost use Rattle.listing.specs.Lines.{header, field, numberText, contentText, lineOf, linesOf, refusedLine};
 ghost use Rattle.listing.specs.Listing.{listingOf};
 ghost use Rattle.listing.specs.Lists.{Lists, listSaid};
+ghost use Rattle.listing.specs.Accepted.{ListsAccepted};
 ghost use Rattle.listing.specs.code.Listable.{InPacket, Listable};
 use reader::Reading;
 use refusal::Reason;
@@ -247,6 +248,17 @@ pub fn list(packet: &[u8], out: &mut [u8]) -> Listing
     let mut table = [0u64; 512];
     match reader::read(packet, catalogue::all_tags(), &mut table) {
         Reading::Refused(refusal) => list_refusal(refusal, out),
+        Reading::Rows(filled) => list_rows(packet, &table, filled.count, out),
+    }
+}
+
+// The same of an accepted packet alone: for another its refusal is the answer, and the output is left as it was.
+pub fn list_accepted(packet: &[u8], out: &mut [u8]) -> Listing
+    ensures { λ r. ⌜ ListsAccepted (now (packet .entry)) (now (out .entry)) r (now (out .exit)) ⌝ }
+{
+    let mut table = [0u64; 512];
+    match reader::read(packet, catalogue::all_tags(), &mut table) {
+        Reading::Refused(refusal) => Listing::Refused(refusal),
         Reading::Rows(filled) => list_rows(packet, &table, filled.count, out),
     }
 }
