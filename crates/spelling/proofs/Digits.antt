@@ -82,7 +82,8 @@ digits-split zero k n =
     let e : n % 10 ^ k + 10 ^ k * (n / 10 ^ k) ≡ n = mod-add-div n (10 ^ k) in
     sym (digits-low k (n % 10 ^ k) (n / 10 ^ k)) ∙ (ap (digits k) e ∙ ap (λ i. digits i n) (sym (zero-add k)))
 digits-split (suc j) k n =
-    let e : n / 10 ^ k / 10 ^ j ≡ n / 10 ^ (j + k) = div-div-eq-div-mul n (10 ^ k) (10 ^ j) ∙ ap (λ x. n / x) (sym (pow-add 10 k j) ∙ ap (λ i. 10 ^ i) (add-comm k j)) in
+    let p : 10 ^ k * 10 ^ j ≡ 10 ^ (j + k) = sym (pow-add 10 k j) ∙ ap (λ i. 10 ^ i) (add-comm k j) in
+    let e : n / 10 ^ k / 10 ^ j ≡ n / 10 ^ (j + k) = div-div-eq-div-mul n (10 ^ k) (10 ^ j) ∙ ap (λ x. n / x) p in
     rw (suc-add j k, e) (ap (λ x. (48 + n / 10 ^ (j + k) % 10) ∷ x) (digits-split j k n))
 
 -- more may be left than there are

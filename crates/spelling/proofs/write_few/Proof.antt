@@ -18,13 +18,17 @@ returns : tie.Need-returns
 returns c = wrote-as (decimal-one _ (c .before .before .before .before .if1 .taken)) (c .before .before .write-digit .ensures)
 
 write-two-requires : tie.Need-write-two-requires
-write-two-requires c κs = (c .before .if2 .taken, room-of (decimal-two _ (c .before .before .if1 .left) (c .before .if2 .taken)) (c .before .before .before .before .pre .1))
+write-two-requires c κs =
+    let s = c .before in
+    (s .if2 .taken, room-of (decimal-two _ (s .before .if1 .left) (s .if2 .taken)) (s .before .before .before .pre .1))
 
 same-length-2 : tie.Need-same-length-2
 same-length-2 c = search needs
 
 returns-2 : tie.Need-returns-2
-returns-2 c = wrote-as (decimal-two _ (c .before .before .before .before .before .if1 .left) (c .before .before .before .before .if2 .taken)) (c .before .before .write-two .ensures)
+returns-2 c =
+    let s = c .before .before .before .before in
+    wrote-as (decimal-two _ (s .before .if1 .left) (s .if2 .taken)) (c .before .before .write-two .ensures)
 
 write-digit-requires-2 : tie.Need-write-digit-requires-2
 write-digit-requires-2 c κs =
@@ -42,8 +46,9 @@ same-length-3 c = search needs
 
 returns-3 : tie.Need-returns-3
 returns-3 c =
-    let s = c .before .before .before .before .before .before .before .before in
-    both-wrote _ (decimal-three _ (s .before .if2 .left) (s .if3 .taken)) (c .before .before .before .before .before .before .write-digit2 .ensures) (c .before .before .write-two2 .ensures)
+    let w = c .before .before .before .before .before .before in
+    let s = w .before .before in
+    both-wrote _ (decimal-three _ (s .before .if2 .left) (s .if3 .taken)) (w .write-digit2 .ensures) (c .before .before .write-two2 .ensures)
 
 write-four-requires : tie.Need-write-four-requires
 write-four-requires c κs =

@@ -34,7 +34,8 @@ returns-2 : tie.Need-returns-2
 returns-2 c =
     let s = c .before .before .before .before .before .before in
     let t = s .before .before .before .before in
-    both-wrote _ (decimal-split 4 (t .args .n) (s .before .before .if1 .left) (omega (arith, t .pre .0))) (s .write-few2 .ensures) (c .before .before .write-four .ensures)
+    let e = decimal-split 4 (t .args .n) (s .before .before .if1 .left) (omega (arith, t .pre .0)) in
+    both-wrote _ e (s .write-few2 .ensures) (c .before .before .write-four .ensures)
 
 pub write-low-spec : {M : Type 1} → statement M
 write-low-spec =
