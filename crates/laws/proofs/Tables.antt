@@ -71,6 +71,17 @@ pub rows-in-table : (K : Knowing) (is : List Item) (t : List ℕ) (n : ℕ) → 
 rows-in-table K is t n e =
     rw (← e) (all-rows K is (tableOf K is t) 0 (λ j h. rw (let z : 0 + j ≡ j = omega arith in z) (row-in-table K is t j h)))
 
+-- as many rows as were asked for, and as there are items
+pub rows-count : (k n : ℕ) (t : List ℕ) → length (rowsIn k n t) ≡ n
+unfolding rowsIn
+rows-count k zero t = refl
+rows-count k (suc n) t = ap suc (rows-count (suc k) n t)
+
+pub items-count : (K : Knowing) (is : List Item) → length (rowsOf K is) ≡ length is
+unfolding rowsOf
+items-count K [] = refl
+items-count K (i ∷ is) = ap suc (items-count K is)
+
 -- of count rows those from the one numbered n on
 module _ (words : List ℕ) (n count : ℕ) where
   pub rows-from : n < count → rowsIn n (count - n) words ≡ rowAt words n ∷ rowsIn (n + 1) (count - (n + 1)) words

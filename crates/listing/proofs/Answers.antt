@@ -22,12 +22,12 @@ use Rattle.rows.specs.declared.RowWords.{RowWords}
 use Rattle.packet.specs.Pieces.{Item}
 use Rattle.packet.specs.Judge.{Knowing}
 use Rattle.packet.specs.Allowed.{Formed}
-use Rattle.packet.specs.Verdict.{received}
+use Rattle.packet.specs.Verdict.{received, checked}
 use Rattle.packet.specs.Rows.{rowOf, rowsOf, rowsIn}
 use Rattle.laws.proofs.Accepted.{accepted-allowed}
 use Rattle.laws.proofs.Sent.{Lies, formed-lie}
 use Rattle.refusal.proofs.Answers.{passed}
-use Rattle.laws.proofs.Tables.{Received, has-received, received-refused}
+use Rattle.laws.proofs.Tables.{Received, has-received, received-refused, items-count}
 use Rattle.reader.specs.Reads.{Reads, readSaid}
 use Rattle.reader.specs.declared.Reading.{Reading}
 use Rattle.reader.specs.declared.Reading.the-variants as reading
@@ -36,8 +36,10 @@ use Rattle.spelling.specs.Spelling.{decimal}
 use Rattle.listing.specs.Lines.{header, field, linesOf, refusedWord, refusedLine}
 use Rattle.listing.specs.Listing.{textBy, listingOf}
 use Rattle.listing.specs.Lists.{textAnswer, listSaid, Lists}
+use Rattle.listing.specs.Accepted.{listAnswer, listOutput, ListsAccepted}
 use Rattle.listing.specs.code.Listable.{InPacket, Listable}
 use Rattle.listing.specs.declared.Listing.{Listing}
+use Rattle.listing.specs.declared.Listing.the-variants as listing
 use Rattle.listing.proofs.Sizes.{rows-short}
 
 module _ {text o : List ℕ} {size : ℕ} (s : size ≡ length text) {r : Listing} where
@@ -75,12 +77,17 @@ module _ {K : TagSet} (k : K ≡ allTags) {p : List ℕ} {r : Reading} {t : List
   reads-all : Reads allTags p (replicate 512 0) r t
   reads-all = rw (← k) reads
 
-  pub lists-refusal : {x : Refusal} → r ≡ reading.Refused x → refusedLine (number (x .reason)) (x .place) (x .tag) ≡ listingOf p
-  unfolding listingOf
-  lists-refusal {x} e =
-      let said = sym (reads-all .answer) ∙ ap readSaid e in
-      let q : received allTags p ≡ refusal x = received-refused allTags p (replicate 512 0) (omega arith) _ _ _ said in
-      ap (textBy p) (sym q)
+  module _ {x : Refusal} (e : r ≡ reading.Refused x) where
+    refused-so : received allTags p ≡ refusal x
+    refused-so = received-refused allTags p (replicate 512 0) (omega arith) _ _ _ (sym (reads-all .answer) ∙ ap readSaid e)
+
+    pub lists-refusal : refusedLine (number (x .reason)) (x .place) (x .tag) ≡ listingOf p
+    unfolding listingOf
+    lists-refusal = ap (textBy p) (sym refused-so)
+
+    pub refuses-list : (o : List ℕ) → ListsAccepted p o (listing.Refused x) o
+    unfolding listAnswer listOutput checked
+    refuses-list o = record { answer = rw refused-so; output = rw refused-so }
 
   module _ {x : Filled} (e : r ≡ reading.Rows x) where
     read : Received allTags p (replicate 512 0) x
@@ -93,6 +100,12 @@ module _ {K : TagSet} (k : K ≡ allTags) {p : List ℕ} {r : Reading} {t : List
     unfolding listingOf
     lists-rows = ap (λ rs. header ++ linesOf p rs) same-rows ∙ ap (textBy p) (sym (read .accepted))
 
+    pub lists-accepted : {o : List ℕ} {l : Listing} {o′ : List ℕ} → Lists (header ++ linesOf p (rowsIn 0 (x .count) t)) o l o′ → ListsAccepted p o l o′
+    unfolding listAnswer listOutput checked
+    lists-accepted {o} {l} {o′} h =
+        let g : Lists (listingOf p) o l o′ = rw (← lists-rows) h in
+        record { answer = rw (read .accepted) (g .answer); output = rw (read .accepted) (g .output) }
+
     pub listable : Bytes p → Listable p (rowsIn 0 (x .count) t)
     unfolding received
     listable by =
@@ -100,4 +113,9 @@ module _ {K : TagSet} (k : K ≡ allTags) {p : List ℕ} {r : Reading} {t : List
         let known = passed (good allTags) _ 1 0 0 (read .accepted) .1 in
         let f : Formed p (read .items) = accepted-allowed K p (read .items) by known .formed in
         rw same-rows
-        (record { inside = rows-inside K p (read .items) (formed-lie p (read .items) f); short = rows-short K p (f .small) (read .items) f })
+        (record {
+          inside = rows-inside K p (read .items) (formed-lie p (read .items) f);
+          few = rw (items-count K (read .items)) (f .few);
+          small = f .small;
+          short = rw (items-count K (read .items)) (rows-short K p (f .small) (read .items) f);
+        })

@@ -1,4 +1,4 @@
--- The public function's contract determines its answer and what it leaves in the output lent; an output of the named bound is never
+-- Each public function's contract determines its answer and what it leaves in the output lent; an output of the named bound is never
 -- too short.
 -- Assumes nothing.
 use Prim.Native.Nat.{ℕ, _≤_}
@@ -18,6 +18,8 @@ use Rattle.listing.specs.declared.Listing.the-variants.{Lines, Refused}
 use Rattle.listing.proofs.Sizes.{listing-short}
 use Rattle.listing.proofs.list.Kinds as list-kinds
 use Rattle.listing.proofs.list.Reads as list-reads
+use Rattle.listing.proofs.list_accepted.Kinds as accepted-kinds
+use Rattle.listing.proofs.list_accepted.Reads as accepted-reads
 
 abbrev listed-so : ℕ → Listing
 listed-so n = Lines (record { size = n })
@@ -31,6 +33,9 @@ listing-apart = told-apart listed-so Refused listSaid as-said
 
 pub list-determined : Determined 2 list-kinds.ps list-kinds.r list-reads.Post (List ℕ) (λ κs e. e .1 .0 .now)
 list-determined κs a z z′ e e′ p q = (listing-apart z z′ (p .answer ∙ sym (q .answer)), p .output ∙ sym (q .output))
+
+pub list-accepted-determined : Determined 2 accepted-kinds.ps accepted-kinds.r accepted-reads.Post (List ℕ) (λ κs e. e .1 .0 .now)
+list-accepted-determined κs a z z′ e e′ p q = (listing-apart z z′ (p .answer ∙ sym (q .answer)), p .output ∙ sym (q .output))
 
 pub largest-enough : (p o : List ℕ) → Bytes p → largest ≤ length o → textAnswer (listingOf p) o ≡ given (length (listingOf p))
 unfolding textAnswer

@@ -1,19 +1,22 @@
 -- Lines row by row: those that are left, and the output that they will make.
 -- Assumes nothing.
-use Prim.Native.Nat.{ℕ, _+_, _-_, _<_, _≤_}
+use Prim.Native.Nat.{ℕ, _+_, _*_, _-_, _<_, _≤_}
 use native.Mathlib.Omega.{arith}
-use native.Mathlib.Nat.{sub-zero}
+use native.Mathlib.Nat.{sub-zero, le-trans}
 use mathlib.Core.Path.{_≡_}
-use mathlib.Core.List.{List, [], _∷_}
+use mathlib.Core.Bool.{true}
+use mathlib.Core.List.{List, [], _∷_, _++_}
+use lib.Dec.{leb}
 use lib.ListN.{length, length-append}
+use borrow.Author.Tests.{le-leb}
 use Rattle.base.specs.Every.{Each}
 use Rattle.base.specs.Putting.{putInto, Room, Wrote}
 use Rattle.base.proofs.Putting.{to-write, wrote-room, room-first, wrote-rest, wrote-nothing}
 use Rattle.rows.specs.declared.RowWords.{RowWords}
 use Rattle.rows.specs.Taken.{rowAt}
 use Rattle.packet.specs.Rows.{rowsIn}
-use Rattle.laws.proofs.Tables.{rows-from, rows-none}
-use Rattle.listing.specs.Lines.{lineOf, linesOf}
+use Rattle.laws.proofs.Tables.{rows-from, rows-none, rows-count}
+use Rattle.listing.specs.Lines.{header, lineOf, linesOf}
 use Rattle.listing.specs.code.Listable.{InPacket, Listable}
 
 -- rows are left, and their lines are so long
@@ -91,6 +94,16 @@ module _ (p words : List ℕ) (count : ℕ) (l : Listable p (rowsIn 0 count word
 
   abbrev lines : List ℕ
   lines = linesOf p (rowsIn 0 count words)
+
+  pub lines-few : count ≤ 128
+  lines-few = rw (rows-count 0 count words) at (l .few)
+
+  lines-most : length (header ++ lines) ≤ 21 + 42 * count + 2 * length p
+  unfolding header
+  lines-most = let s = rw (rows-count 0 count words) at (l .short) in rw length-append (omega arith)
+
+  pub lines-within : (room : ℕ) → 21 + 42 * count + 2 * length p ≤ room → leb (length (header ++ lines)) room ≡ true
+  lines-within room h = le-leb _ _ (le-trans lines-most h)
 
   pub none-written : {o : List ℕ} {from : ℕ} → Room o from lines
       → Unwritten p (rowsIn 0 (count - 0) words) o from (putInto o from lines) (from + length lines)

@@ -105,10 +105,10 @@ module _ (K : Knowing) (p : List ℕ) (small : length p ≤ 8192) where
   values-inside (another c form rest some few f items) =
       rw (length-append, length-append, length-append) (omega (arith, values-inside items))
 
-  pub rows-short : (is : List Item) → Formed p is → length (linesOf p (rowsOf K is)) ≤ 21760
+  pub rows-short : (is : List Item) → Formed p is → length (linesOf p (rowsOf K is)) ≤ 42 * length is + 2 * length p
   rows-short is f =
       let body : length (f .body) ≤ length p = rw (f .whole, length-append, length-append) (omega arith) in
-      omega (arith, lines-short is (formed-lie p is f) (items-tagged (f .items)), values-inside (f .items), f .few, body)
+      omega (arith, lines-short is (formed-lie p is f) (items-tagged (f .items)), values-inside (f .items), body)
 
 refused-short : (n place t : ℕ) → length (refusedLine n place t) ≤ 71
 unfolding refusedLine refusedWord
@@ -122,5 +122,5 @@ listing-short p by = go (received allTags p) refl
     go : (a : Answer (List Item)) → received allTags p ≡ a → length (textBy p a) ≤ largest
     go (given is) e =
         let f : Formed p is = accepted-allowed (holds allTags) p is by (passed (good allTags) _ 1 0 0 e .1) .formed in
-        rw length-append (omega (arith, rows-short (holds allTags) p (f .small) is f))
+        rw length-append (omega (arith, rows-short (holds allTags) p (f .small) is f, f .few, f .small))
     go (refused n place t) e = omega (arith, refused-short n place t)

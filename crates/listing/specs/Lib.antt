@@ -1,4 +1,5 @@
 pub mod Lines
 pub mod Listing
 pub mod Lists
+pub mod Accepted
 pub mod code

@@ -2,6 +2,7 @@
 // The contract gives every byte; an output that is too short is left as it was.
 ghost use mathlib.Core.Path.{_≡_};
 ghost use mathlib.Core.List.{_++_};
+ghost use lib.Dec.{leb};
 ghost use lib.ListN.{length};
 ghost use Rattle.base.specs.Putting.{Room, Wrote};
 ghost use Rattle.refusal.specs.Numbers.{number};
@@ -12,6 +13,7 @@ ghost use Rattle.spelling.specs.Spelling.{decimal, hex};
 ghost use Rattle.listing.specs.Lines.{header, field, numberText, contentText, lineOf, linesOf, refusedLine};
 ghost use Rattle.listing.specs.Listing.{listingOf};
 ghost use Rattle.listing.specs.Lists.{Lists, listSaid};
+ghost use Rattle.listing.specs.Accepted.{ListsAccepted};
 ghost use Rattle.listing.specs.code.Listable.{InPacket, Listable};
 use reader::Reading;
 use refusal::Reason;
@@ -183,17 +185,30 @@ fn too_short() -> Listing
     })
 }
 
+// Whether the header and the lines fit: by the most that so many lines take, and only where that is more than there is by their size.
+fn lines_fit(packet: &[u8], words: &[u64], count: usize, room: usize) -> bool
+    requires { ⌜ Listable (now packet) (rowsIn 0 count (now words)) ⌝ }
+    ensures { λ r. ⌜ r ≡ leb (length (header ++ linesOf (now (packet .entry)) (rowsIn 0 count (now (words .entry))))) room ⌝ }
+{
+    let most = 21 + 42 * count + 2 * packet.len();
+    if most <= room {
+        return true;
+    }
+    let size = 21 + lines_size(packet, words, count);
+    size <= room
+}
+
 // The header and a line for each row.
 fn list_rows(packet: &[u8], words: &[u64], count: usize, out: &mut [u8]) -> Listing
     requires { ⌜ Listable (now packet) (rowsIn 0 count (now words)) ⌝ }
     ensures { λ r. ⌜ Lists (header ++ linesOf (now (packet .entry)) (rowsIn 0 count (now (words .entry)))) (now (out .entry)) r (now (out .exit)) ⌝ }
 {
-    let size = 21 + lines_size(packet, words, count);
-    if out.len() < size {
+    let fit = lines_fit(packet, words, count, out.len());
+    if !fit {
         return too_short();
     }
     let from = put_word(out, 0, b"place\ttag\tkind\tvalue\n");
-    put_lines(out, from, packet, words, count);
+    let size = put_lines(out, from, packet, words, count);
     Listing::Lines(Listed { size })
 }
 
@@ -233,6 +248,17 @@ pub fn list(packet: &[u8], out: &mut [u8]) -> Listing
     let mut table = [0u64; 512];
     match reader::read(packet, catalogue::all_tags(), &mut table) {
         Reading::Refused(refusal) => list_refusal(refusal, out),
+        Reading::Rows(filled) => list_rows(packet, &table, filled.count, out),
+    }
+}
+
+// The same of an accepted packet alone: for another its refusal is the answer, and the output is left as it was.
+pub fn list_accepted(packet: &[u8], out: &mut [u8]) -> Listing
+    ensures { λ r. ⌜ ListsAccepted (now (packet .entry)) (now (out .entry)) r (now (out .exit)) ⌝ }
+{
+    let mut table = [0u64; 512];
+    match reader::read(packet, catalogue::all_tags(), &mut table) {
+        Reading::Refused(refusal) => Listing::Refused(refusal),
         Reading::Rows(filled) => list_rows(packet, &table, filled.count, out),
     }
 }

@@ -14,7 +14,7 @@ ghost use Rattle.refusal.specs.Numbers.{number};
 ghost use Rattle.oysterknoll.specs.Answers.{saying, counting, filling, writing, measuring, valuing, coding, refusing, items};
 ghost use Rattle.tagset.specs.Sets.{knowing};
 ghost use Rattle.oysterknoll.specs.Answers.{heightAnswer, cornerAnswer, holding, rowAnswer};
-ghost use Rattle.oysterknoll.specs.Listing.{listAnswer, listOutput};
+ghost use Rattle.listing.specs.Accepted.{listAnswer, listOutput};
 use ground::Corner;
 use ground::Height;
 use listing::Listing;
@@ -256,11 +256,8 @@ pub extern "C" fn oyk_list(packet: &[u8], out: &mut [u8]) -> Answer
     ensures { λ r. ⌜ r ≡ saying counting (listAnswer (now (packet .entry)) (now (out .entry))) ⌝ }
     ensures { λ _. ⌜ now (out .exit) ≡ listOutput (now (packet .entry)) (now (out .entry)) ⌝ }
 {
-    match packet::check(packet, catalogue::all_tags()) {
-        Checked::Refused(refusal) => refused(refusal),
-        Checked::Accepted(_) => match listing::list(packet, out) {
-            Listing::Refused(refusal) => refused(refusal),
-            Listing::Lines(listed) => counted(listed.size as u64),
-        },
+    match listing::list_accepted(packet, out) {
+        Listing::Refused(refusal) => refused(refusal),
+        Listing::Lines(listed) => counted(listed.size as u64),
     }
 }

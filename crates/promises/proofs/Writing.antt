@@ -1,6 +1,6 @@
 -- Demand 2: what was written is accepted by the set it was written with, and gives the same table.
 -- Assumes nothing.
-use Prim.Native.Nat.{ℕ, zero, suc, _≤_}
+use Prim.Native.Nat.{ℕ, suc, _≤_}
 use mathlib.Core.Path.{_≡_, refl, ap, sym, _∙_}
 use mathlib.Core.Bool.{true}
 use mathlib.Core.List.{List, [], _∷_}
@@ -16,33 +16,23 @@ use Rattle.tagset.specs.declared.TagSet.{TagSet}
 use Rattle.knowing.specs.Good.{good}
 use Rattle.rows.specs.declared.RowWords.{RowWords}
 use Rattle.rows.proofs.Laws.{count-good}
-use Rattle.packet.specs.Pieces.{Piece, Item}
+use Rattle.packet.specs.Pieces.{Piece}
 use Rattle.packet.specs.Judge.{Knowing}
 use Rattle.packet.specs.Encode.{encode}
-use Rattle.packet.specs.Rows.{rowsIn, rowsOf, piecesOf, lentVerdict, readAnswer, readTable, SameTable, noRows, oneMore}
+use Rattle.packet.specs.Rows.{rowsIn, piecesOf, lentVerdict, readAnswer, readTable, SameTable, noRows, oneMore}
 use Rattle.laws.proofs.Written.{Sendable}
 use Rattle.laws.proofs.Rows.{all-tagged}
-use Rattle.laws.proofs.Tables.{rows-in-table}
+use Rattle.laws.proofs.Tables.{rows-in-table, rows-count, items-count}
 use Rattle.laws.proofs.Readings.{written-table}
 use Rattle.outgoing.specs.Outgoing.{outgoing}
 use Rattle.outgoing.proofs.Given.{Outgoes, outgoing-then}
 use Rattle.writer.specs.Writes.{roomy, written, writtenBy, writeAnswer, writeOutput}
 use Rattle.writer.specs.declared.Written.{Written}
 
-rows-count : (k n : ℕ) (words : List ℕ) → length (rowsIn k n words) ≡ n
-unfolding rowsIn
-rows-count k zero words = refl
-rows-count k (suc n) words = ap suc (rows-count (suc k) n words)
-
 pieces-count : (K : Knowing) (b : List ℕ) (rs : List RowWords) → length (piecesOf K b rs) ≡ length rs
 unfolding piecesOf
 pieces-count K b [] = refl
 pieces-count K b (r ∷ rs) = ap suc (pieces-count K b rs)
-
-items-count : (K : Knowing) (is : List Item) → length (rowsOf K is) ≡ length is
-unfolding rowsOf
-items-count K [] = refl
-items-count K (i ∷ is) = ap suc (items-count K is)
 
 same-count : {b c : List ℕ} {rs ss : List RowWords} → SameTable b c rs ss → length rs ≡ length ss
 same-count noRows = refl

@@ -1,17 +1,15 @@
--- Text put at a place: two digits for each byte, and digits in a part that is lent.
+-- Text put at a place: two digits for each byte, digits one after the other, and a minus sign before them.
 -- Assumes nothing.
-use Prim.Native.Nat.{ℕ, _+_, _*_, _-_, _/_, _%_, _<_, _≤_}
+use Prim.Native.Nat.{ℕ, suc, _+_, _*_, _-_, _/_, _%_, _^_, _<_, _≤_}
 use native.Mathlib.Omega.{arith}
 use native.Mathlib.Numerals.{add-one}
-use mathlib.Core.Path.{_≡_, refl, sym, ap, _∙_}
+use mathlib.Core.Path.{_≡_, refl, ap, _∙_}
 use mathlib.Core.List.{List, [], _∷_, _++_, append-assoc}
 use lib.ListN.{length, getD, take, set, length-append}
 use lib.Seq.{take-suc, length-take-le}
-use borrow.Rule.Slice.PartMut.{midOf, putMid}
-use Rattle.base.specs.Putting.{Puts, putInto}
-use Rattle.base.proofs.Putting.{put-length, put-more, put-one, put-next, part-length, part-put, all-put}
-use Rattle.spelling.specs.Spelling.{digits, decimal, hexDigit, hex}
-use Rattle.spelling.proofs.Digits.{decimal-length}
+use Rattle.base.specs.Putting.{Puts, Room, Wrote, putInto}
+use Rattle.base.proofs.Putting.{put-one, put-next, no-room, all-put, all-wrote, room-of, room-first, room-after, wrote-as, wrote-then}
+use Rattle.spelling.specs.Spelling.{digits, hexDigit, hex}
 use Rattle.spelling.proofs.Laws.{hex-length}
 
 hex-append : (l m : List ℕ) → hex (l ++ m) ≡ hex l ++ hex m
@@ -38,22 +36,44 @@ module _ (o : List ℕ) (at : ℕ) (out : List ℕ) (i : ℕ) (l : List ℕ) (h 
       rw j at (put-next o at (bs ++ (high ∷ [])) low (rw j (omega arith))) in
       rw (e, first, second, append-assoc bs (high ∷ []) (low ∷ []), eh, el, hex-next l i h)
 
--- the digits of a number in a part that is lent
-pub decimal-put : (o : List ℕ) (at n size : ℕ) (filled : List ℕ) → size ≡ length (decimal n) → at + size ≤ length o
-    → filled ≡ digits (length (midOf at (at + size - at) o)) n → Puts o at (decimal n) size (putMid at (at + size - at) o filled)
-unfolding decimal
-decimal-put o at n size filled s h e =
-    let f : filled ≡ decimal n = e ∙ ap (λ k. digits k n) (part-length o at size h ∙ (s ∙ decimal-length n)) in
-    all-put o at size (decimal n) (sym s) h _ (ap (putMid at (at + size - at) o) f ∙ part-put o at size h (decimal n) (sym s))
+-- a digit
+module _ {o : List ℕ} {at : ℕ} (d : ℕ) where
+  pub digit-room : Room o at (digits 1 d) → at < length o
+  unfolding digits
+  digit-room h = omega (arith, h .fits)
+
+  pub digit-wrote : d < 10 → Room o at (digits 1 d) → Wrote o at (digits 1 d) (at + 1) (set o at (48 + d))
+  unfolding digits
+  digit-wrote few h =
+      let e : 48 + d ≡ 48 + d / 10 ^ 0 % 10 = omega arith in
+      all-wrote o at 1 (digits 1 d) refl (omega (arith, digit-room h)) _ (put-one o at (48 + d) (digit-room h) ∙ ap (λ b. putInto o at (b ∷ [])) e)
+
+-- what was put, by the place after it
+pub wrote-puts : {o : List ℕ} {at : ℕ} {bs : List ℕ} {n : ℕ} {o′ : List ℕ} → Wrote o at bs n o′ → Puts o at bs (n - at) o′
+wrote-puts {o} {at} {bs} {n} {o′} w =
+    let e : length bs ≡ n - at = omega (arith, w .after) in
+    all-put o at (n - at) bs e (omega (arith, w .after, w .inside)) o′ (w .output)
 
 -- a minus sign, and a number after it
-module _ (o : List ℕ) (at : ℕ) (bs : List ℕ) (size count : ℕ) (o′ : List ℕ)
-    (s : size ≡ length bs) (h : at + (size + 1) ≤ length o) (p : Puts (set o at 45) (at + 1) bs count o′) where
-  both-put : o′ ≡ putInto o at (45 ∷ bs)
-  both-put = p .after ∙ (ap (λ l. putInto l (at + 1) bs) (put-one o at 45 (omega arith)) ∙ put-more o at (45 ∷ []) bs (omega arith))
+module _ (o : List ℕ) (at : ℕ) (bs : List ℕ) where
+  pub minus-short : length o < at + 1 + length bs → Puts o at (45 ∷ bs) 0 o
+  minus-short h = no-room o at (suc (length bs)) (45 ∷ bs) refl (omega arith)
 
-  pub minus-put : Puts o at (45 ∷ bs) (size + 1) o′
-  minus-put = all-put o at (size + 1) (45 ∷ bs) (omega arith) h o′ both-put
+  pub minus-none : length o ≤ at → Puts o at (45 ∷ bs) 0 o
+  minus-none h = minus-short (omega arith)
 
-  pub minus-length : length o′ ≡ length o
-  minus-length = ap length both-put ∙ put-length o at (45 ∷ bs) (omega arith)
+pub minus-wrote : (o : List ℕ) {at : ℕ} {bs : List ℕ} {n : ℕ} {o′ : List ℕ} → at < length o → Wrote (set o at 45) (at + 1) bs n o′
+    → Wrote o at (45 ∷ bs) n o′
+minus-wrote o {at} h w = wrote-then (all-wrote o at 1 (45 ∷ []) refl (omega arith) _ (put-one o at 45 h)) w
+
+-- a text in two parts
+module _ {o : List ℕ} {at : ℕ} {high : List ℕ} (low : List ℕ) {text : List ℕ} (e : high ++ low ≡ text) where
+  pub high-room : Room o at text → Room o at high
+  high-room h = room-first low (room-of e h)
+
+  module _ {m : ℕ} {o₁ : List ℕ} (w : Wrote o at high m o₁) where
+    pub low-room : Room o at text → Room o₁ m low
+    low-room h = room-after w (room-of e h)
+
+    pub both-wrote : {n : ℕ} {o₂ : List ℕ} → Wrote o₁ m low n o₂ → Wrote o at text n o₂
+    both-wrote v = wrote-as e (wrote-then w v)

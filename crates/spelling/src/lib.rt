@@ -7,7 +7,7 @@ ghost use Prim.Native.Nat.{_+_, _<_, _≤_};
 ghost use lib.IntN.{pos, natAbs};
 ghost use lib.ListN.{length};
 ghost use lib.Signed.{ltZ};
-ghost use Rattle.base.specs.Putting.{Puts};
+ghost use Rattle.base.specs.Putting.{Puts, Room, Wrote};
 ghost use Rattle.spelling.specs.Spelling.{digits, decimal, whole, hexDigit, hex};
 
 // How many digits a number has.
@@ -54,45 +54,132 @@ fn has_room(room: usize, at: usize, size: usize) -> bool
     at <= room - size
 }
 
-// Fills the slice with the lowest digits of a number.
-fn fill_decimal(out: &mut [u8], n: u64)
-    ensures { λ _. ⌜ now (out .exit) ≡ digits (length (now (out .entry))) n ⌝ }
+// Whether a number fits at a place: its digits are counted only where twenty, the most that there are, do not fit.
+fn decimal_fits(room: usize, at: usize, n: u64) -> bool
+    ensures { λ r. ⌜ (r ≡ true → at + length (decimal n) ≤ room) × (r ≡ false → room < at + length (decimal n)) ⌝ }
 {
-    let mut left = n;
-    let mut i = out.len();
-    while 0 < i {
-        i -= 1;
-        out[i] = (48 + left % 10) as u8;
-        left /= 10;
+    let most = has_room(room, at, 20);
+    if most {
+        return true;
     }
+    has_room(room, at, decimal_size(n))
+}
+
+// Writes a digit where there is room, and answers the place after it, as all that write do.
+fn write_digit(out: &mut [u8], at: usize, d: u64) -> usize
+    requires { ⌜ (d < 10) × Room (now out) at (digits 1 d) ⌝ }
+    ensures { λ r. ⌜ Wrote (now (out .entry)) at (digits 1 d) r (now (out .exit)) ⌝ }
+{
+    out[at] = (48 + d) as u8;
+    at + 1
+}
+
+// Writes two digits, four, eight: zeros in front too.
+fn write_two(out: &mut [u8], at: usize, n: u64) -> usize
+    requires { ⌜ (n < 100) × Room (now out) at (digits 2 n) ⌝ }
+    ensures { λ r. ⌜ Wrote (now (out .entry)) at (digits 2 n) r (now (out .exit)) ⌝ }
+{
+    let after = write_digit(out, at, n / 10);
+    write_digit(out, after, n % 10)
+}
+
+fn write_four(out: &mut [u8], at: usize, n: u64) -> usize
+    requires { ⌜ (n < 10000) × Room (now out) at (digits 4 n) ⌝ }
+    ensures { λ r. ⌜ Wrote (now (out .entry)) at (digits 4 n) r (now (out .exit)) ⌝ }
+{
+    let after = write_two(out, at, n / 100);
+    write_two(out, after, n % 100)
+}
+
+fn write_eight(out: &mut [u8], at: usize, n: u64) -> usize
+    requires { ⌜ (n < 100000000) × Room (now out) at (digits 8 n) ⌝ }
+    ensures { λ r. ⌜ Wrote (now (out .entry)) at (digits 8 n) r (now (out .exit)) ⌝ }
+{
+    let after = write_four(out, at, n / 10_000);
+    write_four(out, after, n % 10_000)
+}
+
+// Writes a number of up to four digits.
+fn write_few(out: &mut [u8], at: usize, n: u64) -> usize
+    requires { ⌜ (n < 10000) × Room (now out) at (decimal n) ⌝ }
+    ensures { λ r. ⌜ Wrote (now (out .entry)) at (decimal n) r (now (out .exit)) ⌝ }
+{
+    if n < 10 {
+        return write_digit(out, at, n);
+    }
+    if n < 100 {
+        return write_two(out, at, n);
+    }
+    if n < 1000 {
+        let after = write_digit(out, at, n / 100);
+        return write_two(out, after, n % 100);
+    }
+    write_four(out, at, n)
+}
+
+// Writes a number of up to eight digits.
+fn write_low(out: &mut [u8], at: usize, n: u64) -> usize
+    requires { ⌜ (n < 100000000) × Room (now out) at (decimal n) ⌝ }
+    ensures { λ r. ⌜ Wrote (now (out .entry)) at (decimal n) r (now (out .exit)) ⌝ }
+{
+    if n < 10_000 {
+        return write_few(out, at, n);
+    }
+    let after = write_few(out, at, n / 10_000);
+    write_four(out, after, n % 10_000)
+}
+
+// Writes a number of up to sixteen digits.
+fn write_high(out: &mut [u8], at: usize, n: u64) -> usize
+    requires { ⌜ (n < 10000000000000000) × Room (now out) at (decimal n) ⌝ }
+    ensures { λ r. ⌜ Wrote (now (out .entry)) at (decimal n) r (now (out .exit)) ⌝ }
+{
+    if n < 100_000_000 {
+        return write_low(out, at, n);
+    }
+    let after = write_low(out, at, n / 100_000_000);
+    write_eight(out, after, n % 100_000_000)
+}
+
+// Writes any number.
+fn write_decimal(out: &mut [u8], at: usize, n: u64) -> usize
+    requires { ⌜ Room (now out) at (decimal n) ⌝ }
+    ensures { λ r. ⌜ Wrote (now (out .entry)) at (decimal n) r (now (out .exit)) ⌝ }
+{
+    if n < 100_000_000 {
+        return write_low(out, at, n);
+    }
+    let after = write_high(out, at, n / 100_000_000);
+    write_eight(out, after, n % 100_000_000)
 }
 
 // Puts a number in decimal.
 pub fn put_decimal(out: &mut [u8], at: usize, n: u64) -> usize
     ensures { λ r. ⌜ Puts (now (out .entry)) at (decimal n) r (now (out .exit)) ⌝ }
 {
-    let size = decimal_size(n);
-    let room = has_room(out.len(), at, size);
-    if !room {
+    let fits = decimal_fits(out.len(), at, n);
+    if !fits {
         return 0;
     }
-    let end = at + size;
-    fill_decimal(&mut out[at..end], n);
-    size
+    let end = write_decimal(out, at, n);
+    end - at
 }
 
 // Puts a minus sign and a number in decimal.
 fn put_minus(out: &mut [u8], at: usize, n: u64) -> usize
     ensures { λ r. ⌜ Puts (now (out .entry)) at (45 ∷ decimal n) r (now (out .exit)) ⌝ }
 {
-    let size = decimal_size(n) + 1;
-    let room = has_room(out.len(), at, size);
-    if !room {
+    if out.len() <= at {
+        return 0;
+    }
+    let first = at + 1;
+    let fits = decimal_fits(out.len(), first, n);
+    if !fits {
         return 0;
     }
     out[at] = b'-';
-    put_decimal(out, at + 1, n);
-    size
+    let end = write_decimal(out, first, n);
+    end - at
 }
 
 // Puts a whole number in decimal, with a minus sign where it is negative.

@@ -1,56 +1,52 @@
 -- `spelling::put_minus` meets its contract.
 -- Assumes nothing.
-use native.Mathlib.Omega.{arith}
+use lib.ListN.{length-set}
 use borrow.Author.Tests.{not-true, not-false}
 use borrow.Author.Needs.{needs}
-use Rattle.spelling.proofs.Putting.{minus-put, minus-length}
-use Rattle.spelling.proofs.Digits.{decimal-few}
-use Rattle.base.proofs.Putting.{no-room}
+use Rattle.base.proofs.Putting.{wrote-length}
+use Rattle.spelling.proofs.Putting.{minus-none, minus-short, minus-wrote, wrote-puts}
 use Rattle.spelling.proofs.put_minus.Statement.{statement}
 use Rattle.spelling.proofs.put_minus.Tie as tie
 
-decimal-size-requires : tie.Need-decimal-size-requires
-decimal-size-requires c κs = search needs
-
-add-size : tie.Need-add-size
-add-size c = omega (arith, decimal-few (c .before .before .args .n), c .decimal-size .ensures)
-
-has-room-requires : tie.Need-has-room-requires
-has-room-requires c κs = search needs
-
 returns : tie.Need-returns
-returns c = no-room _ _ _ _ (omega (arith, c .before .before .decimal-size .ensures)) (c .before .has-room .ensures .1 (not-true _ (c .if1 .taken)))
+returns c = minus-none _ _ _ (c .if1 .taken)
+
+add-first : tie.Need-add-first
+add-first c = search needs
+
+decimal-fits-requires : tie.Need-decimal-fits-requires
+decimal-fits-requires c κs = search needs
+
+returns-2 : tie.Need-returns-2
+returns-2 c = minus-short _ _ _ (c .before .decimal-fits .ensures .1 (not-true _ (c .if2 .taken)))
 
 slice-write-out : tie.Need-slice-write-out
-slice-write-out c = omega (arith, c .before .has-room .ensures .0 (not-false _ (c .if1 .left)))
+slice-write-out c = search needs
 
-add-put-decimal : tie.Need-add-put-decimal
-add-put-decimal c = omega (arith, c .before .before .has-room .ensures .0 (not-false _ (c .before .if1 .left)))
+write-decimal-requires : tie.Need-write-decimal-requires
+write-decimal-requires c κs = record { fits = rw length-set (c .before .before .decimal-fits .ensures .0 (not-false _ (c .before .if2 .left))) }
 
-put-decimal-requires : tie.Need-put-decimal-requires
-put-decimal-requires c κs = search needs
+sub-result : tie.Need-sub-result
+sub-result c = search needs
 
 same-length : tie.Need-same-length
 same-length c =
     let out = c .before .before .before .before .before .before .before .before .args .out .now in
-    let room = c .before .before .before .before .before .has-room .ensures .0 (not-false _ (c .before .before .before .before .if1 .left)) in
-    minus-length out _ _ _ _ _ (c .before .before .before .before .before .before .decimal-size .ensures) room (c .before .before .put-decimal .ensures)
+    wrote-length (minus-wrote out (c .before .before .before .before .before .before .if1 .left) (c .before .before .write-decimal .ensures))
 
-returns-2 : tie.Need-returns-2
-returns-2 c =
-    let room = c .before .before .before .before .before .has-room .ensures .0 (not-false _ (c .before .before .before .before .if1 .left)) in
-    minus-put _ _ _ _ _ _ (c .before .before .before .before .before .before .decimal-size .ensures) room (c .before .before .put-decimal .ensures)
+returns-3 : tie.Need-returns-3
+returns-3 c = wrote-puts (minus-wrote _ (c .before .before .before .before .before .before .if1 .left) (c .before .before .write-decimal .ensures))
 
 pub put-minus-spec : {M : Type 1} → statement M
 put-minus-spec =
     tie.close
     (tie.spec
-    decimal-size-requires
-    add-size
-    has-room-requires
     returns
+    add-first
+    decimal-fits-requires
+    returns-2
     slice-write-out
-    add-put-decimal
-    put-decimal-requires
+    write-decimal-requires
+    sub-result
     same-length
-    returns-2)
+    returns-3)
