@@ -1,10 +1,10 @@
 // Tags and lengths as they stand before each value (SMPTE ST 336 as document 01 has it): read at a place, sized, and put at a place.
 // Every slice and every place gets an answer; a tag has one form, a length is put in its shortest, and what was put reads back.
 ghost use mathlib.Core.Path.{_≡_};
-ghost use Prim.Native.Nat.{_<_};
+ghost use Prim.Native.Nat.{_+_, _<_, _≤_};
 ghost use mathlib.Core.List.{[], _∷_};
-ghost use lib.ListN.{length, drop};
-ghost use Rattle.number.specs.Stored.{bytesOf};
+ghost use lib.ListN.{length, take, drop};
+ghost use Rattle.number.specs.Stored.{valueOf, bytesOf};
 ghost use Rattle.ber.specs.Read.{readTag, tagSecond, tagThird, readLength};
 ghost use Rattle.base.specs.Putting.{Puts};
 ghost use Rattle.ber.specs.Written.{tagBytes, lengthBytes};
@@ -71,6 +71,26 @@ fn tag_third_at(s: &[u8], at: usize, high: u64) -> Field
     Field::Broken
 }
 
+// The number that one to four bytes at a place say, one after another: a length has so few.
+fn few_at(s: &[u8], at: usize, count: usize) -> u64
+    requires { ⌜ (0 < count) × (count ≤ 4) × (at + count ≤ length (now s)) ⌝ }
+    ensures { λ r. ⌜ r ≡ valueOf (take count (drop at (now (s .entry)))) ⌝ }
+{
+    let one = number::wide(s[at]);
+    if count == 1 {
+        return one;
+    }
+    let two = one * 256 + number::wide(s[at + 1]);
+    if count == 2 {
+        return two;
+    }
+    let three = two * 256 + number::wide(s[at + 2]);
+    if count == 3 {
+        return three;
+    }
+    three * 256 + number::wide(s[at + 3])
+}
+
 pub fn length_at(s: &[u8], at: usize) -> Field
     ensures { λ r. ⌜ seen r ≡ readLength (drop at (now (s .entry))) ⌝ }
 {
@@ -92,9 +112,8 @@ pub fn length_at(s: &[u8], at: usize) -> Field
     if s.len() - from < count {
         return Field::Broken;
     }
-    let end = from + count;
     Field::Is {
-        value: number::value(&s[from..end]),
+        value: few_at(s, from, count),
         size: count + 1,
     }
 }
