@@ -18,7 +18,7 @@ use Rattle.knowing.specs.Good.{good}
 use Rattle.packet.specs.Pieces.{Item, pieces, walk}
 use Rattle.packet.specs.Judge.{Knowing}
 use Rattle.packet.specs.Verdict.{bodyOf, verdict, received, checked}
-use Rattle.packet.specs.Encode.{encode, canonical}
+use Rattle.packet.specs.Encode.{longerOf, encode, canonical}
 use Rattle.packet.specs.Allowed.{Formed}
 use Rattle.packet.specs.Rows.{rowsIn, rowsOf, tableOf, piecesOf, lentVerdict, Filled, filledBy, readAnswer, readTable}
 use Rattle.packet.specs.declared.Accepted.{Accepted}
@@ -36,8 +36,9 @@ use Rattle.outgoing.proofs.Given.{Sent, Outgoes, outgoes-given}
 use Rattle.writer.specs.Writes.{written, writeAnswer, writeOutput}
 use Rattle.relay.specs.Forwards.{Forwards, ownTable, forwardAnswer, forwardOutput, forwardSaid}
 use Rattle.packet.specs.Structure.{ItemsFrom}
-use Rattle.relay.specs.code.Sends.{sentAnswer, sentOutput, Sends}
+use Rattle.relay.specs.code.Sends.{LongerBy, sentAnswer, sentOutput, Sends}
 use Rattle.relay.specs.declared.Forwarding.{Forwarding}
+use Rattle.relay.proofs.Items.{all-longer}
 
 table-long : (K : Knowing) (is : List Item) (t : List ℕ) → 4 * length is ≤ length (tableOf K is t)
 unfolding tableOf
@@ -125,7 +126,7 @@ module _ (K : TagSet) (p : List ℕ) where
       unfolding checked
       taken = map-given bodyOf (received K p) e
 
-      pub items-from : ItemsFrom p (b .from)
+      items-from : ItemsFrom p (b .from)
       unfolding received
       items-from =
           let v = passed (good K) (verdict (holds K) p) 1 0 0 (taken .1) in
@@ -134,6 +135,12 @@ module _ (K : TagSet) (p : List ℕ) where
             found = accepts (holds K) p (taken .0) (v .1) .found;
             walked = ap (λ (x : Accepted). walk 128 (x .from) (drop (x .from) p)) (sym (taken .2)) ∙ accepting K p (taken .0) by (taken .1) .fills;
           }
+
+      pub longer-by : LongerBy p (b .from) (b .longer)
+      unfolding items-from
+      longer-by =
+          let e : longerOf (taken .0) ≡ b .longer = ap (λ (x : Accepted). x .longer) (taken .2) in
+          record { walks = items-from; sizes = rw (← e) (all-longer p (b .from) items-from by) }
 
       pub forward-sent : (o : List ℕ) (r : Forwarding) (o′ : List ℕ) → Sends (canonical p) o r o′ → Forwards K p o r o′
       unfolding readAnswer

@@ -8,7 +8,7 @@ ghost use Rattle.packet.specs.code.Headers.{itemBy};
 ghost use Rattle.packet.specs.Encode.{itemBytes, canonical};
 ghost use Rattle.relay.specs.Forwards.{Forwards};
 ghost use Rattle.packet.specs.Structure.{ItemsFrom};
-ghost use Rattle.relay.specs.code.Sends.{itemsFor, Sendable, Sends};
+ghost use Rattle.relay.specs.code.Sends.{itemsFor, LongerBy, Sendable, Sends};
 use packet::Checked;
 use packet::Header;
 use packet::Step;
@@ -20,36 +20,6 @@ use writer::Written;
 pub enum Forwarding {
     Packet(Written),
     Refused(Refusal),
-}
-
-// How many bytes an item takes, its length in the shortest form.
-fn item_size(packet: &[u8], item: Header) -> usize
-    requires { ⌜ (item .place + item .size ≤ length (now packet)) × (length (itemBytes (itemBy (now packet) item .piece)) ≤ 8192) ⌝ }
-    ensures { λ r. ⌜ r ≡ length (itemBytes (itemBy (now (packet .entry)) item .piece)) ⌝ }
-{
-    let size = item.size;
-    ber::tag_size(item.tag) + ber::length_size(size as u64) + size
-}
-
-// And all items of an accepted packet together.
-fn items_size(packet: &[u8], from: usize) -> usize
-    requires { ⌜ ItemsFrom (now packet) from ⌝ }
-    ensures { λ r. ⌜ r ≡ length (itemsFor (now (packet .entry))) ⌝ }
-{
-    let mut here = from;
-    let mut size: usize = 0;
-    while here < packet.len() {
-        match packet::item_at(packet, here) {
-            Step::Refused(_) => {
-                return size;
-            }
-            Step::Item(item) => {
-                size += item_size(packet, item);
-                here = item.place + item.size;
-            }
-        }
-    }
-    size
 }
 
 // An item, its value as it stands in the packet, and the place after it.
@@ -102,11 +72,11 @@ fn put_anew(out: &mut [u8], size: usize, items: usize, packet: &[u8], from: usiz
 
 // An accepted packet, if there is room for what is sent on. Where that has as many bytes, every form was the shortest already,
 // and it is the packet itself.
-fn send(packet: &[u8], from: usize, out: &mut [u8]) -> Forwarding
-    requires { ⌜ ItemsFrom (now packet) from ⌝ }
+fn send(packet: &[u8], from: usize, longer: usize, out: &mut [u8]) -> Forwarding
+    requires { ⌜ LongerBy (now packet) from longer ⌝ }
     ensures { λ r. ⌜ Sends (canonical (now (packet .entry))) (now (out .entry)) r (now (out .exit)) ⌝ }
 {
-    let items = items_size(packet, from);
+    let items = packet.len() - from - longer;
     let size = 16 + ber::length_size(items as u64) + items;
     if out.len() < size {
         return Forwarding::Refused(Refusal {
@@ -129,6 +99,6 @@ pub fn forward(known: TagSet, packet: &[u8], out: &mut [u8]) -> Forwarding
 {
     match packet::check(packet, known) {
         Checked::Refused(refusal) => Forwarding::Refused(refusal),
-        Checked::Accepted(accepted) => send(packet, accepted.from, out),
+        Checked::Accepted(accepted) => send(packet, accepted.from, accepted.longer, out),
     }
 }

@@ -4,7 +4,7 @@ use mathlib.Core.Path.{refl, sym, ap, _∙_}
 use borrow.Author.Needs.{needs}
 use Rattle.number.proofs.Laws.{bytes-lent}
 use Rattle.packet.specs.Said.{checkSaid}
-use Rattle.relay.proofs.Sending.{forward-refused, items-from, forward-sent}
+use Rattle.relay.proofs.Sending.{forward-refused, longer-by, forward-sent}
 use Rattle.relay.proofs.forward.Statement.{statement}
 use Rattle.relay.proofs.forward.Tie as tie
 
@@ -21,7 +21,7 @@ send-requires : tie.Need-send-requires
 send-requires c κs =
     let s = c .before .before .before .before in
     let e = sym (s .check .ensures) ∙ ap checkSaid (c .before .before .accepted .given .1) in
-    items-from _ _ (bytes-lent (s .before .before .shared-slice-known .given)) _ e
+    longer-by _ _ (bytes-lent (s .before .before .shared-slice-known .given)) _ e
 
 returns : tie.Need-returns
 returns c = forward-refused _ _ _ _ _ _ (sym (c .before .before .before .check .ensures) ∙ ap checkSaid (c .before .refusal .given .1)) _ refl

@@ -1,6 +1,6 @@
 -- The shadow of the code, not to be believed but proved to be what document 01's definitions give: an accepted packet
 -- sent on.
-use Prim.Native.Nat.{ℕ, _≤_}
+use Prim.Native.Nat.{ℕ, _+_, _≤_}
 use mathlib.Core.Path.{_≡_}
 use mathlib.Core.Bool.{cond}
 use mathlib.Core.List.{List, _++_}
@@ -16,6 +16,11 @@ use Rattle.relay.specs.declared.Forwarding.{Forwarding}
 -- the items of a packet, as they are sent on
 abbrev pub itemsFor : List ℕ → List ℕ
 itemsFor p = itemsBytes (piecesIn (structure p))
+
+-- a packet of right structure whose items begin at a place, and have so many bytes more than as they are sent on
+pub record LongerBy (p : List ℕ) (from longer : ℕ) : Type 0 where
+  pub walks : ItemsFrom p from
+  pub sizes : from + (length (itemsFor p) + longer) ≡ length p
 
 -- all that is sent on has so many bytes, so many of them the items', and there is room for it
 pub record Sendable (p : List ℕ) (from size items room : ℕ) : Type 0 where
