@@ -16,7 +16,7 @@ use Rattle.tagset.specs.declared.TagSet.{TagSet}
 use Rattle.knowing.specs.Good.{good}
 use Rattle.packet.specs.Pieces.{Item}
 use Rattle.packet.specs.Structure.{ItemsFrom}
-use Rattle.packet.specs.Verdict.{bodyOf, received, checked}
+use Rattle.packet.specs.Verdict.{startOf, bodyOf, received, checked}
 use Rattle.packet.specs.Rows.{rowsOf, words, lentVerdict, filledBy, readAnswer, tableBy, readTable}
 use Rattle.packet.specs.declared.Accepted.{Accepted}
 use Rattle.packet.proofs.Accepting.{Accepting, accepting, walk-few}
@@ -25,6 +25,7 @@ use Rattle.reader.specs.code.Filling.{AcceptsFrom, orNone, itemsOf}
 use Rattle.reader.specs.declared.Reading.{Reading}
 use Rattle.reader.specs.declared.Reading.the-variants.{Rows, Refused}
 use Rattle.reader.proofs.Laws.{table-is}
+use Rattle.reader.proofs.Headers.{items-past}
 
 -- a refusal that leaves the table as it was
 module _ (K : TagSet) (p t : List ℕ) where
@@ -70,7 +71,8 @@ module _ (K : TagSet) (p t : List ℕ) where
         may-fill =
             let a : Accepting K p (k .items) = accepting K p (k .items) by (k .accepts) in
             let begins : ItemsFrom p (b .from) = record { items = k .items; found = a .found; walked = rw (ap (λ x. x .from) (k .body)) (a .fills) } in
-            record { begins = begins; accepted = k .accepts }
+            let first : b .from ≡ startOf 0 (k .items) = ap (λ x. x .from) (k .body) in
+            record { begins = begins; accepted = k .accepts; past = rw first (items-past p by (k .items) (a .found)) }
 
         pub filled : (t′ t″ : List ℕ) → t′ ≡ sets t 0 (words (rowsOf (holds K) (itemsOf K p))) → t″ ≡ sets t′ (4 * b .count) (replicate (512 - 4 * b .count) 0)
             → Reads K p t (Rows (record { count = b .count })) t″

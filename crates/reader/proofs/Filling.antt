@@ -9,13 +9,13 @@ use lib.ListN.{length}
 use lib.Seq.{sets}
 use borrow.Author.Tests.{eqb-true}
 use Rattle.base.proofs.Cases.{byBool}
-use Rattle.refusal.specs.Answer.{given, refused}
+use Rattle.refusal.specs.Answer.{Answer, given, refused}
 use Rattle.tagset.specs.Sets.{holds}
 use Rattle.tagset.specs.declared.TagSet.{TagSet}
 use Rattle.catalogue.specs.Shapes.{shapeOf, shapeAllows}
 use Rattle.catalogue.specs.declared.Shape.{Shape}
 use Rattle.catalogue.specs.declared.Shape.the-variants.{Text, Number, Absent}
-use Rattle.catalogue.proofs.Columns.{number-width}
+use Rattle.catalogue.proofs.Columns.{number-some, number-width}
 use Rattle.packet.specs.Pieces.{Item}
 use Rattle.packet.specs.code.Headers.{itemBy}
 use Rattle.packet.specs.Said.{headerAt}
@@ -23,13 +23,13 @@ use Rattle.packet.specs.Rows.{shapeFor, rowOf, rowsOf, words}
 use Rattle.packet.specs.declared.Header.{Header}
 use Rattle.packet.proofs.Ahead.{Ahead, no-more, not-refused, next}
 use Rattle.packet.proofs.Accepting.{AllFit, oneFits}
-use Rattle.reader.specs.code.Filling.{putRow, Narrow}
+use Rattle.reader.specs.code.Filling.{ItemAt, putRow, Narrow}
 use Rattle.reader.proofs.Laws.{row-more}
 
--- an allowed length of a number is at most eight bytes
+-- an allowed length of a number is its width, of at most eight bytes
 narrow-shape : (t n : ℕ) (s : Shape) → shapeOf t ≡ s → shapeAllows s n ≡ true → Narrow s n
 narrow-shape t n Text e a = tt
-narrow-shape t n (Number w m) e a = omega (arith, eqb-true n w a, number-width t w m e)
+narrow-shape t n (Number w m) e a = record { size = eqb-true n w a; some = number-some t w m e; few = number-width t w m e }
 narrow-shape t n Absent e a = tt
 
 narrow-known : (K : ℕ → Bool) (t n : ℕ) → (K t ≡ true → shapeAllows (shapeOf t) n ≡ true) → Narrow (shapeFor K t) n
@@ -46,6 +46,7 @@ rest-fits (oneFits a f) = f
 -- n rows are stored in t, and the items ahead make it x
 pub record Left (K : TagSet) (p : List ℕ) (here n : ℕ) (t x : List ℕ) : Type 0 where
   pub ahead : Ahead p here
+  pub past : 16 ≤ here
   pub fits : AllFit (holds K) (ahead .items)
   pub few : n + length (ahead .items) ≤ 128
   pub stored : sets t (4 * n) (words (rowsOf (holds K) (ahead .items))) ≡ x
@@ -56,14 +57,18 @@ module _ (K : TagSet) (p : List ℕ) (here n : ℕ) (t x : List ℕ) (l : Left K
   none-left h = rw (no-more p here (l .ahead) h) at (l .stored)
 
   module _ (h : here < length p) where
-    pub none-refused : (r a g : ℕ) → headerAt p here ≡ refused r a g → t ≡ x
-    none-refused r a g e = not-refused p here (l .ahead) h r a g e
+    pub item-there : ItemAt p here
+    item-there = go (headerAt p here) refl
+      where
+        go : (a : Answer Header) → headerAt p here ≡ a → ItemAt p here
+        go (given i) e = record { header = i; found = e }
+        go (refused r a g) e = not-refused p here (l .ahead) h r a g e
 
     -- the next item
     pub record Next (i : Header) : Type 0 where
       pub one-left : n < 128
       pub narrow : length (itemBy p i .piece .value) ≡ i .size → Narrow (shapeFor (holds K) (i .tag)) (i .size)
-      pub left : (t′ : List ℕ) → t′ ≡ putRow t n (rowOf (holds K) (itemBy p i)) → Left K p (i .place + i .size) (n + 1) t′ x
+      pub left : here < i .place + i .size → (t′ : List ℕ) → t′ ≡ putRow t n (rowOf (holds K) (itemBy p i)) → Left K p (i .place + i .size) (n + 1) t′ x
 
     pub next-item : (i : Header) → headerAt p here ≡ given i → Next i
     next-item i e =
@@ -74,8 +79,9 @@ module _ (K : TagSet) (p : List ℕ) (here n : ℕ) (t x : List ℕ) (l : Left K
         record {
           one-left = omega (arith, few);
           narrow = λ k. narrow-known (holds K) (i .tag) (i .size) (λ y. ap (shapeAllows (shapeOf (i .tag))) (sym k) ∙ first-fits fits y);
-          left = λ t′ st. record {
+          left = λ on t′ st. record {
             ahead = a .ahead;
+            past = omega (arith, l .past);
             fits = rest-fits fits;
             few = omega (arith, few);
             stored = rw st (row-more (holds K) t n (itemBy p i) (a .ahead .items) ∙ stored);

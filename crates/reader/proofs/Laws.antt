@@ -1,22 +1,23 @@
 -- Runs of stores, and the row of an item as the code makes it.
 -- Assumes nothing.
-use Prim.Native.Nat.{ℕ, suc, _+_, _-_, _*_, _%_, _^_, _<_, _≤_}
+use Prim.Native.Nat.{ℕ, suc, _+_, _-_, _*_, _<_, _≤_}
 use native.Mathlib.Omega.{arith}
 use native.Mathlib.Numerals.{add-one}
-use native.Mathlib.Nat.{add-zero, pow-le-pow-right, lt-of-lt-of-le}
+use native.Mathlib.Nat.{add-zero}
 use mathlib.Core.Path.{_≡_, refl, ap, sym, _∙_}
-use mathlib.Core.Bool.{Bool}
+use mathlib.Core.Bool.{Bool, true, false}
 use mathlib.Core.List.{List, [], _∷_, _++_, append-assoc}
-use lib.ListN.{length, set, take, drop, replicate, length-append, length-replicate, length-take, length-drop}
+use lib.ListN.{length, getD, set, take, drop, replicate, length-append, length-replicate, length-take, length-drop}
 use lib.Seq.{sets, sets-eq}
-use Rattle.number.specs.Stored.{Bytes, valueOf}
-use Rattle.number.proofs.Laws.{bytes-take, bytes-drop, value-small}
-use Rattle.catalogue.specs.declared.Shape.{Shape}
-use Rattle.catalogue.specs.declared.Shape.the-variants.{Text, Number, Absent}
+use Rattle.base.proofs.Cases.{byLt, clash}
+use Rattle.number.specs.Stored.{Bytes}
+use Rattle.tagset.specs.Sets.{holds}
+use Rattle.tagset.specs.declared.TagSet.{TagSet}
+use Rattle.tagset.proofs.Laws.{Words, holds-none}
+use Rattle.catalogue.specs.code.Column.{shapeColumn, shapeByte}
+use Rattle.catalogue.proofs.Columns.{byte-in-column}
 use Rattle.packet.specs.Pieces.{Item}
-use Rattle.rows.specs.Meaning.{kindFor}
-use Rattle.rows.proofs.Laws.{kind-seen, code-seen}
-use Rattle.packet.specs.Rows.{RowWords, meaningOf, kindOf, codeOf, rowOf, rowsOf, words, tableOf}
+use Rattle.packet.specs.Rows.{RowWords, shapeFor, rowOf, rowsOf, words, tableOf}
 use Rattle.packet.specs.declared.Header.{Header}
 use Rattle.reader.specs.code.Filling.{putRow}
 
@@ -75,25 +76,20 @@ table-is K is t few room =
     ∙ (ap (λ k. rs ++ zs ++ drop k t) whole
     ∙ append-assoc rs zs (drop 512 t))))
 
--- the value of at most eight bytes
+-- the value as it stands
 module _ (p : List ℕ) (by : Bytes p) (i : Header) (inside : i .place + i .size ≤ length p) where
   pub value-length : length (take (i .size) (drop (i .place) p)) ≡ i .size
   value-length = rw (length-take, length-drop) (omega arith)
 
-  pub narrow-value : i .size ≤ 8 → (v : ℕ) → v ≡ valueOf (take (i .place + i .size - i .place) (drop (i .place) p)) % 2 ^ 64
-      → v ≡ valueOf (take (i .size) (drop (i .place) p))
-  narrow-value narrow v e =
-      let l : List ℕ = take (i .size) (drop (i .place) p) in
-      let k : i .place + i .size - i .place ≡ i .size = omega arith in
-      let small : valueOf l < 256 ^ i .size = rw value-length at (value-small l (bytes-take (i .size) (drop (i .place) p) (bytes-drop (i .place) by))) in
-      let smaller : valueOf l < 256 ^ 8 = lt-of-lt-of-le small (pow-le-pow-right {n = 256} (omega arith) {i = i .size} {j = 8} narrow) in
-      let f : v ≡ valueOf l % 2 ^ 64 = rw k at e in
-      omega arith
+-- the byte of a tag's shape for a receiver
+module _ (K : TagSet) where
+  pub held-below : Words K → (t : ℕ) → holds K t ≡ true → t < 128
+  held-below w t e = byLt t 128 (λ h. h) (λ h. clash (sym e ∙ holds-none K w t h))
 
--- the kind by the stored code is the kind of the value
-pub kind-by-code : (s : Shape) (v : List ℕ) → kindFor s (codeOf (meaningOf s v)) ≡ kindOf (meaningOf s v)
-kind-by-code Text v = refl
-kind-by-code (Number w m) v =
-    let code = code-seen (length v) v w m (valueOf v) in
-    ap (kindFor (Number w m)) code ∙ sym (kind-seen (length v) v (Number w m) (valueOf v))
-kind-by-code Absent v = refl
+  pub byte-known : Words K → (t : ℕ) → holds K t ≡ true → getD shapeColumn t 0 ≡ shapeByte (shapeFor (holds K) t)
+  unfolding shapeFor
+  byte-known w t e = rw e (byte-in-column t (held-below w t e))
+
+  pub byte-unknown : (t : ℕ) → holds K t ≡ false → shapeByte (shapeFor (holds K) t) ≡ 64
+  unfolding shapeFor
+  byte-unknown t e = rw e

@@ -1,18 +1,19 @@
 // The reader: from a packet to a table of rows in lent words.
 // An accepted packet fills the table with its rows and zeros up to word 512; a refusal leaves every word.
 ghost use mathlib.Core.Path.{_≡_};
-ghost use Prim.Native.Nat.{_+_, _-_, _*_, _<_, _≤_};
+ghost use Prim.Native.Nat.{_+_, _-_, _*_, _/_, _^_, _<_, _≤_};
 ghost use lib.ListN.{length, replicate};
 ghost use lib.Seq.{sets};
 ghost use Rattle.refusal.specs.Numbers.{number};
 ghost use Rattle.refusal.specs.Answer.{refused as refusedBy};
 ghost use Rattle.tagset.specs.Sets.{holds};
-ghost use Rattle.catalogue.specs.code.Column.{shapeColumn};
+ghost use Rattle.refusal.specs.Answer.{given};
+ghost use Rattle.catalogue.specs.code.Column.{shapeColumn, shapeByte};
+ghost use Rattle.packet.specs.Said.{headerAt};
 ghost use Rattle.packet.specs.code.Headers.{itemBy};
-ghost use Rattle.packet.specs.Rows.{meaningOf, codeOf, shapeFor, rowOf, rowsOf, words};
+ghost use Rattle.packet.specs.Rows.{shapeFor, rowOf, rowsOf, words};
 ghost use Rattle.reader.specs.Reads.{Reads, readSaid};
-ghost use Rattle.reader.specs.code.Filling.{putRow, Narrow, AcceptsFrom, itemsOf};
-use catalogue::Shape;
+ghost use Rattle.reader.specs.code.Filling.{ItemAt, topOf, kindBy, putRow, Narrow, AcceptsFrom, itemsOf};
 use packet::Checked;
 use packet::Header;
 use packet::Step;
@@ -37,39 +38,97 @@ fn refused(reason: Reason) -> Reading
     })
 }
 
-// The code of a value of a shape: 0 for text and carried.
-fn code_at(packet: &[u8], shape: Shape, item: Header) -> u64
-    requires { ⌜ (item .place + item .size ≤ length (now packet)) × Narrow shape (item .size) ⌝ }
-    ensures { λ r. ⌜ r ≡ codeOf (meaningOf shape (itemBy (now (packet .entry)) item .piece .value)) ⌝ }
+// Any item of an accepted packet.
+fn any_header_at(packet: &[u8], at: usize) -> Header
+    requires { ⌜ ItemAt (now packet) at ⌝ }
+    ensures { λ r. ⌜ headerAt (now (packet .entry)) at ≡ given r ⌝ }
 {
-    match shape {
-        Shape::Text => 0,
-        Shape::Absent => 0,
-        Shape::Number {
-            width: _,
-            marked: _,
-        } => {
-            let place = item.place;
-            let end = place + item.size;
-            number::value(&packet[place..end])
-        }
+    match packet::item_at(packet, at) {
+        Step::Item(item) => item,
+        Step::Refused(_) => Header {
+            tag: 0,
+            start: at,
+            place: at,
+            size: 0,
+        },
     }
 }
 
-// The row of an item.
+// Most have a tag and a length of one byte each.
+fn header_at(packet: &[u8], at: usize) -> Header
+    requires { ⌜ ItemAt (now packet) at ⌝ }
+    ensures { λ r. ⌜ headerAt (now (packet .entry)) at ≡ given r ⌝ }
+{
+    let after = at + 1;
+    if 128 <= (packet[at] | packet[after]) {
+        return any_header_at(packet, at);
+    }
+    Header {
+        tag: number::wide(packet[at]),
+        start: at,
+        place: after + 1,
+        size: packet[after] as usize,
+    }
+}
+
+// The byte of a tag's shape, as a receiver sees it: it carries what it does not know.
+fn byte_for(column: &[u8; 128], known: TagSet, tag: u64) -> u64
+    requires { ⌜ now column ≡ shapeColumn ⌝ }
+    ensures { λ r. ⌜ r ≡ shapeByte (shapeFor (holds known) tag) ⌝ }
+{
+    if tagset::has(known, tag) {
+        let at = tag as usize;
+        return number::wide(column[at]);
+    }
+    0x40
+}
+
+// So many lowest bytes of a word, moved to its top.
+fn topmost(word: u64, width: u64) -> u64
+    requires { ⌜ width ≤ 8 ⌝ }
+    ensures { λ r. ⌜ r ≡ topOf width word ⌝ }
+{
+    let half = 32 - 4 * width;
+    word << half << half
+}
+
+// And back from there, alone.
+fn lowest(top: u64, width: u64) -> u64
+    requires { ⌜ width ≤ 8 ⌝ }
+    ensures { λ r. ⌜ r ≡ top / 2 ^ (64 - 8 * width) ⌝ }
+{
+    let half = 32 - 4 * width;
+    top >> half >> half
+}
+
+// The kind by a shape's byte: a mark has the number after a reading's. A code at the top is the mark where only the top bit is set.
+fn kind_by(byte: u64, top: u64) -> u64
+    requires { ⌜ byte < 256 ⌝ }
+    ensures { λ r. ⌜ r ≡ kindBy byte top ⌝ }
+{
+    let kind = byte / 16 % 8;
+    if top == 0x8000_0000_0000_0000 {
+        return kind + byte / 128;
+    }
+    kind
+}
+
+// The row of an item. The eight bytes that end with its value are there, for it stands past the key.
 fn row_of(packet: &[u8], column: &[u8; 128], known: TagSet, item: Header) -> RowWords
     requires { ⌜ (now column ≡ shapeColumn) × (item .place + item .size ≤ length (now packet)) × (length (now packet) ≤ 8192)
-        × Narrow (shapeFor (holds known) (item .tag)) (item .size) ⌝ }
+        × Narrow (shapeFor (holds known) (item .tag)) (item .size) × (8 ≤ item .place + item .size) ⌝ }
     ensures { λ r. ⌜ r ≡ rowOf (holds known) (itemBy (now (packet .entry)) item) ⌝ }
 {
-    let shape = rows::shape_for(column, known, item.tag);
-    let code = code_at(packet, shape, item);
+    let end = item.place + item.size;
+    let byte = byte_for(column, known, item.tag);
+    let width = byte % 16;
+    let top = topmost(number::value(&packet[end - 8..end]), width);
     let place = item.place as u64;
     let size = item.size as u64;
     RowWords {
         tag: item.tag,
-        kind: rows::kind_of(shape, code),
-        code,
+        kind: kind_by(byte, top),
+        code: lowest(top, width),
         part: place * 65536 + size,
     }
 }
@@ -107,17 +166,11 @@ fn fill(packet: &[u8], from: usize, known: TagSet, table: &mut [u64])
     let mut here = from;
     let mut n: usize = 0;
     while here < packet.len() {
-        match packet::item_at(packet, here) {
-            Step::Refused(_) => {
-                return;
-            }
-            Step::Item(item) => {
-                let row = row_of(packet, &column, known, item);
-                put_row(table, n, row);
-                here = item.place + item.size;
-                n += 1;
-            }
-        }
+        let item = header_at(packet, here);
+        let row = row_of(packet, &column, known, item);
+        put_row(table, n, row);
+        here = item.place + item.size;
+        n += 1;
     }
 }
 

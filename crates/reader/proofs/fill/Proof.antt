@@ -7,19 +7,18 @@ use native.Mathlib.Omega.{arith}
 use borrow.Author.Needs.{needs}
 use lib.ListN.{length}
 use lib.Seq.{sets}
-use Rattle.refusal.specs.Answer.{given}
 use Rattle.tagset.specs.Sets.{holds}
 use Rattle.catalogue.specs.code.Column.{shapeColumn}
 use Rattle.tagset.specs.declared.TagSet.{TagSet}
 use Rattle.packet.specs.Pieces.{Item, pieces}
 use Rattle.packet.specs.Judge.{fine, judge}
-use Rattle.packet.specs.Said.{headerAt, stepSaid}
 use Rattle.packet.specs.Rows.{rowsOf, words}
+use Rattle.number.proofs.Laws.{bytes-lent}
 use Rattle.packet.proofs.Walks.{Lies, header-lies}
 use Rattle.packet.proofs.Accepting.{Accepting, accepting, AllFit, fine-fit, walk-few}
 use Rattle.reader.specs.code.Filling.{orNone, itemsOf, putRow}
 use Rattle.reader.proofs.Laws.{value-length}
-use Rattle.reader.proofs.Filling.{Left, none-left, none-refused, Next, next-item}
+use Rattle.reader.proofs.Filling.{Left, none-left, item-there, Next, next-item}
 use Rattle.reader.proofs.fill.Statement.{statement}
 use Rattle.reader.proofs.fill.Tie as tie
 
@@ -35,22 +34,13 @@ fits : (K : TagSet) (is : List Item) → judge (holds K) (pieces is) ≡ fine �
 unfolding judge
 fits K is e = fine-fit (holds K) [] is e
 
--- the item found at the loop's place
-found : (c : tie.After-known-told Inv-loop μ-loop)
-    → headerAt (c .before .before .before .before .before .before .before .before .before .args .packet .now)
-    (c .before .before .before .before .before .loop .here) ≡ given (c .before .item .given .0 .0)
-found c = sym (c .before .before .before .item-at .ensures) ∙ ap stepSaid (c .before .item .given .1)
+next : (c : tie.After-header-at Inv-loop μ-loop)
+    → Next _ _ _ _ _ _ (c .before .before .loop .inv .3) (c .before .loop-test .taken) (c .header-at .result)
+next c = next-item _ _ _ _ _ _ (c .before .before .loop .inv .3) (c .before .loop-test .taken) _ (c .header-at .ensures)
 
-next : (c : tie.After-known-told Inv-loop μ-loop)
-    → Next _ _ _ _ _ _ (c .before .before .before .before .before .loop .inv .3) (c .before .before .before .before .loop-test .taken)
-    (c .before .item .given .0 .0)
-next c = next-item _ _ _ _ _ _ (c .before .before .before .before .before .loop .inv .3) (c .before .before .before .before .loop-test .taken) _ (found c)
-
-lies : (c : tie.After-known-told Inv-loop μ-loop)
-    → Lies (c .before .before .before .before .before .before .before .before .before .args .packet .now)
-    (c .before .before .before .before .before .loop .here) (c .before .item .given .0 .0)
-lies c =
-    header-lies _ _ (record { byte = λ i. c .before .before .before .before .before .before .before .before .shared-slice-known .given i .fits }) _ (found c)
+lies : (c : tie.After-header-at Inv-loop μ-loop)
+    → Lies (c .before .before .before .before .before .before .args .packet .now) (c .before .before .loop .here) (c .header-at .result)
+lies c = header-lies _ _ (bytes-lent (c .before .before .before .before .before .shared-slice-known .given)) _ (c .header-at .ensures)
 
 shapes-requires : tie.Need-shapes-requires Inv-loop μ-loop
 shapes-requires c κs = search needs
@@ -66,6 +56,7 @@ loop-holds c =
       refl,
       k .short,
       record {
+        past = a .past;
         ahead = record { most = 128; items = b .items; walks = b .walked };
         fits = fits (s .args .known) (b .items) (k .clean);
         few = omega (arith, walk-few 128 _ _ (b .items) (b .walked));
@@ -73,51 +64,31 @@ loop-holds c =
       },
     )
 
-item-at-requires : tie.Need-item-at-requires Inv-loop μ-loop
-item-at-requires c κs = search needs
-
-enum-told : tie.Need-enum-told Inv-loop μ-loop
-enum-told c = search needs
-
-same-length : tie.Need-same-length Inv-loop μ-loop
-same-length c = c .before .before .before .before .loop .inv .1
-
-returns : tie.Need-returns Inv-loop μ-loop
-returns c =
-    none-refused _ _ _ _ _ _ (c .before .before .before .before .loop .inv .3) (c .before .before .before .loop-test .taken) _ _ _
-    (sym (c .before .before .item-at .ensures) ∙ ap stepSaid (c .enum-told .given .1))
-
-enum-known-item : tie.Need-enum-known-item Inv-loop μ-loop
-enum-known-item c = search needs
+header-at-requires : tie.Need-header-at-requires Inv-loop μ-loop
+header-at-requires c κs = item-there _ _ _ _ _ _ (c .before .loop .inv .3) (c .loop-test .taken)
 
 row-of-requires : tie.Need-row-of-requires Inv-loop μ-loop
 row-of-requires c κs =
-    let l = c .before .before .before .before .before .before .loop in
-    let d = lies (c .before) in (
+    let l = c .before .before .before .loop in
+    let d = lies (c .before) in
+    let by = bytes-lent (c .before .before .before .before .before .before .shared-slice-known .given) in (
       l .inv .0,
       d .inside,
       l .inv .2,
-      next (c .before) .narrow
-          (value-length _ (record {
-            byte =
-                λ i. c .before .before .before .before .before .before .before .before .before .shared-slice-known .given i .fits;
-          }) (c .before .before .item .given .0 .0) (d .inside)),
+      next (c .before) .narrow (value-length _ by (c .before .header-at .result) (d .inside)),
+      omega (arith, d .on, l .inv .3 .past),
     )
 
 put-row-requires : tie.Need-put-row-requires Inv-loop μ-loop
 put-row-requires c κs =
-    let l = c .before .before .before .before .before .before .before .before .loop in
+    let l = c .before .before .before .before .before .loop in
     let few = next (c .before .before .before) .one-left in
-    (few, omega (arith, few, l .inv .1, c .before .before .before .before .before .before .before .before .before .before .before .before .pre .1))
+    (few, omega (arith, few, l .inv .1, c .before .before .before .before .before .before .before .before .before .pre .1))
 
 add-here : tie.Need-add-here Inv-loop μ-loop
 add-here c =
-    omega (
-      arith,
-      lies
-          (c .before .before .before .before .before .before .before) .inside,
-      c .before .before .before .before .before .before .before .before .before .before .before .before .loop .inv .2,
-    )
+    let d = c .before .before .before .before .before .before .before in
+    omega (arith, lies d .inside, d .before .before .loop .inv .2)
 
 add-n : tie.Need-add-n Inv-loop μ-loop
 add-n c = omega (arith, next (c .before .before .before .before .before .before .before) .one-left)
@@ -127,21 +98,20 @@ loop-less c = omega (arith, lies (c .before .before .before .before .before .bef
 
 loop-again : tie.Need-loop-again Inv-loop μ-loop
 loop-again c =
-    let l = c .before .before .before .before .before .before .before .before .before .before .before .before .loop in
+    let d = c .before .before .before .before .before .before .before in
+    let l = d .before .before .loop in
     let put = c .before .before .before .put-row in (
       l .inv .0,
-      put .kept .0
-          ∙ l .inv .1,
+      put .kept .0 ∙ l .inv .1,
       l .inv .2,
-      next (c .before .before .before .before .before .before .before) .left _ (put .ensures
-          ∙ ap (putRow (l .table) (l .n)) (c .before .before .before .before .before .row-of .ensures)),
+      next d .left (lies d .on) _ (put .ensures ∙ ap (putRow (l .table) (l .n)) (c .before .before .before .before .before .row-of .ensures)),
     )
 
-same-length-2 : tie.Need-same-length-2 Inv-loop μ-loop
-same-length-2 c = c .before .loop .inv .1
+same-length : tie.Need-same-length Inv-loop μ-loop
+same-length c = c .before .loop .inv .1
 
-returns-2 : tie.Need-returns-2 Inv-loop μ-loop
-returns-2 c = none-left _ _ _ _ _ _ (c .before .loop .inv .3) (c .loop-test .left)
+returns : tie.Need-returns Inv-loop μ-loop
+returns c = none-left _ _ _ _ _ _ (c .before .loop .inv .3) (c .loop-test .left)
 
 pub fill-spec : {M : Type 1} → statement M
 fill-spec =
@@ -151,16 +121,12 @@ fill-spec =
     μ-loop
     shapes-requires
     loop-holds
-    item-at-requires
-    enum-told
-    same-length
-    returns
-    enum-known-item
+    header-at-requires
     row-of-requires
     put-row-requires
     add-here
     add-n
     loop-less
     loop-again
-    same-length-2
-    returns-2)
+    same-length
+    returns)

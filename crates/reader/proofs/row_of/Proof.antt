@@ -1,50 +1,99 @@
 -- `reader::row_of` meets its contract.
 -- Assumes nothing.
-use borrow.Author.Needs.{needs}
-use mathlib.Core.Path.{_≡_, sym, ap, _∙_}
-use Prim.Native.Nat.{_+_, _*_}
-use lib.ListN.{take, drop}
+use Prim.Native.Nat.{_+_, _-_, _*_, _/_, _%_, _^_}
+use mathlib.Core.Path.{sym, ap, _∙_}
+use lib.ListN.{length, take, drop}
+use Rattle.number.specs.Stored.{valueOf}
+use Rattle.number.proofs.Laws.{bytes-lent}
 use Rattle.tagset.specs.Sets.{holds}
-use Rattle.rows.proofs.Laws.{shape-by-column}
-use Rattle.rows.specs.Meaning.{kindFor}
-use Rattle.packet.specs.Rows.{shapeFor, meaningOf, codeOf, rowOf}
-use Rattle.reader.proofs.Laws.{value-length, kind-by-code}
+use Rattle.catalogue.specs.code.Column.{shapeByte}
+use Rattle.packet.specs.Rows.{shapeFor, rowOf}
+use Rattle.reader.specs.code.Filling.{topOf, kindBy, Narrow}
+use Rattle.reader.proofs.Laws.{value-length}
+use Rattle.reader.proofs.Codes.{value-last, Tells, tells}
+use borrow.Author.Needs.{needs}
 use Rattle.reader.proofs.row_of.Statement.{statement}
 use Rattle.reader.proofs.row_of.Tie as tie
 
-shaped : (c : tie.After-shape-for) → c .shape-for .result ≡ shapeFor (holds (c .before .before .args .known)) (c .before .before .args .item .tag)
-shaped c = c .shape-for .ensures ∙ shape-by-column (holds (c .before .before .args .known)) _ (c .before .before .args .item .tag) (c .before .before .pre .0)
+-- what the shape's byte and the eight bytes tell of the value
+told : (c : tie.After-value)
+    → Tells (shapeFor (holds (c .before .before .before .before .before .args .known)) (c .before .before .before .before .before .args .item .tag))
+    (take (c .before .before .before .before .before .args .item .size) (drop (c .before .before .before .before .before .args .item .place) (c .before .before .before .before .before .args .packet .now))) (c .value .result)
+told c =
+    let s = c .before .before .before .before .before in
+    let i = s .args .item in
+    let by = bytes-lent (c .before .before .before .before .shared-slice-known .given) in
+    let size = value-length (s .args .packet .now) by i (s .pre .1) in
+    let narrow : Narrow (shapeFor (holds (s .args .known)) (i .tag)) (length (take (i .size) (drop (i .place) (s .args .packet .now)))) = rw size (s .pre .3) in
+    tells _ _ _ narrow (λ n e few. ap (λ x. x % 256 ^ n) (c .value .ensures)
+    ∙ (value-last (s .args .packet .now) (i .place + i .size) (i .place) n by (ap (λ m. i .place + m) (e ∙ size)) few (s .pre .4) (s .pre .1)
+    ∙ ap (λ m. valueOf (take m (drop (i .place) (s .args .packet .now)))) (e ∙ size)))
 
-shape-for-requires : tie.Need-shape-for-requires
-shape-for-requires c κs = search needs
+add-end : tie.Need-add-end
+add-end c = search needs
 
-code-at-requires : tie.Need-code-at-requires
-code-at-requires c κs = (c .before .before .pre .1, rw (shaped c) (c .before .before .pre .3))
+byte-for-requires : tie.Need-byte-for-requires
+byte-for-requires c κs = search needs
 
-kind-of-requires : tie.Need-kind-of-requires
-kind-of-requires c κs = search needs
+sub-value : tie.Need-sub-value
+sub-value c = search needs
 
-mul-t10 : tie.Need-mul-t10
-mul-t10 c = search needs
+sub-value-2 : tie.Need-sub-value-2
+sub-value-2 c = search needs
 
-add-t11 : tie.Need-add-t11
-add-t11 c = search needs
+part-value-start : tie.Need-part-value-start
+part-value-start c = search needs
+
+part-value-end : tie.Need-part-value-end
+part-value-end c = search needs
+
+value-requires : tie.Need-value-requires
+value-requires c κs = search needs
+
+topmost-requires : tie.Need-topmost-requires
+topmost-requires c κs = rw (c .before .before .byte-for .ensures) (told c .few)
+
+kind-by-requires : tie.Need-kind-by-requires
+kind-by-requires c κs = rw (c .before .before .before .byte-for .ensures) (told (c .before) .small)
+
+lowest-requires : tie.Need-lowest-requires
+lowest-requires c κs = rw (c .before .before .before .before .byte-for .ensures) (told (c .before .before) .few)
+
+mul-t18 : tie.Need-mul-t18
+mul-t18 c = search needs
+
+add-t19 : tie.Need-add-t19
+add-t19 c = search needs
 
 returns : tie.Need-returns
 unfolding rowOf
 returns c =
-    let s = c .before .before .before .before in
+    let s = c .before .before .before .before .before .before .before .before in
     let i = s .args .item in
-    let p = s .args .packet .now in
-    let S = shapeFor (holds (s .args .known)) (i .tag) in
-    let v = take (i .size) (drop (i .place) p) in
-    let shape = shaped (c .before .before) in
-    let code = c .before .code-at .ensures ∙ ap (λ h. codeOf (meaningOf h v)) shape in
-    let kind = c .kind-of .ensures ∙ (ap (λ h. kindFor h (c .before .code-at .result)) shape ∙ (ap (kindFor S) code ∙ kind-by-code S v)) in
-    let size = value-length p (record { byte = λ k. c .before .before .before .shared-slice-known .given k .fits }) i (s .pre .1) in
+    let v = c .before .before .before in
+    let byte = v .before .before .byte-for .ensures in
+    let top = c .before .before .topmost .ensures ∙ ap (λ b. topOf (b % 16) (v .value .result)) byte in
+    let kind = c .before .kind-by .ensures ∙ (ap (λ b. kindBy b (c .before .before .topmost .result)) byte
+    ∙ (ap (kindBy (shapeByte (shapeFor (holds (s .args .known)) (i .tag)))) top ∙ told v .kind)) in
+    let code = c .lowest .ensures ∙ (ap (λ b. c .before .before .topmost .result / 2 ^ (64 - 8 * (b % 16))) byte
+    ∙ (ap (λ t. t / 2 ^ (64 - 8 * (shapeByte (shapeFor (holds (s .args .known)) (i .tag)) % 16))) top ∙ told v .code)) in
+    let size = value-length (s .args .packet .now) (bytes-lent (c .before .before .before .before .before .before .before .shared-slice-known .given)) i (s .pre .1) in
     λ k. record { tag = i .tag; kind = kind k; code = code k; part = i .place * 65536 + sym size k }
 
 pub row-of-spec : {M : Type 1} → statement M
 row-of-spec =
     tie.close
-    (tie.spec shape-for-requires code-at-requires kind-of-requires mul-t10 add-t11 returns)
+    (tie.spec
+    add-end
+    byte-for-requires
+    sub-value
+    sub-value-2
+    part-value-start
+    part-value-end
+    value-requires
+    topmost-requires
+    kind-by-requires
+    lowest-requires
+    mul-t18
+    add-t19
+    returns)
