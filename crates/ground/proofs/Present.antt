@@ -74,7 +74,7 @@ module _ (K : Knowing) (b : List ℕ) (t : ℕ) (i : Item) (knows : K t ≡ true
       (λ z. let e : half i + half i ≡ codes i = scaled-rule s .halves in absurd (omega (arith, rw z at e)))
       (λ n. ne-eqb _ _ n)
 
-  shape-is : shapeFor K t ≡ Number (i .width) (isMarked (i .sign))
+  pub shape-is : shapeFor K t ≡ Number (i .width) (isMarked (i .sign))
   unfolding shapeFor shapeOf
   shape-is = rw (knows, s .known, some-bytes)
 

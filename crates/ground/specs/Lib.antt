@@ -1,3 +1,4 @@
 pub mod Values
 pub mod Ground
 pub mod Said
+pub mod code

@@ -1,20 +1,16 @@
 // Heights and corners of an accepted packet, in house units. A height keeps its kind, and no function turns one kind into the
 // other; a mark is off the Earth and never a number.
 ghost use mathlib.Core.Path.{_≡_};
-ghost use mathlib.Core.Bool.{true, _&&_};
-ghost use Prim.Native.Nat.{_<_};
-ghost use lib.Dec.{eqb};
+ghost use Prim.Native.Nat.{_^_, _<_};
 ghost use Rattle.refusal.specs.Answer.{given};
-ghost use Rattle.rows.specs.Meaning.{isNumber};
-ghost use Rattle.rows.specs.Taken.{rowSays};
-ghost use Rattle.packet.specs.Rows.{rowsIn};
-ghost use Rattle.ground.specs.Values.{valueBy, valueFor, Small};
-ghost use Rattle.ground.specs.Ground.{heightIn, pointOf, sumOf, fullCoordinate, offsetCoordinate, fullCorner, offsetCorner, cornerIn, fromRows};
+ghost use Rattle.scale.specs.Conversions.{toHouse};
+ghost use Rattle.ground.specs.Values.{inHouse, valueFor, Small};
+ghost use Rattle.ground.specs.Ground.{heightIn, pointOf, sumOf, fullCorner, offsetCorner, cornerIn, fromRows};
 ghost use Rattle.ground.specs.Ground.{sensorHeight, frameCentreHeight, cornerOf};
 ghost use Rattle.ground.specs.Said.{heightSaid, cornerSaid};
-use reader::Reading;
+ghost use Rattle.ground.specs.code.Located.{Placed, rowsHeld, endIn, Like};
+use packet::Checked;
 use refusal::Refusal;
-use rows::RowWords;
 use scale::ToHouse;
 use tagset::TagSet;
 
@@ -51,57 +47,85 @@ enum Value {
     At(i64),
 }
 
-// What a row that is present says: a mark is no number.
-fn value_of(row: RowWords) -> Value
-    requires { ⌜ isNumber (rowSays row) ≡ true ⌝ }
-    ensures { λ r. ⌜ r ≡ valueBy row ⌝ }
+// A code in house units; what is no number, as a mark, is no place on the Earth.
+fn in_house(tag: u64, code: u64) -> Value
+    ensures { λ r. ⌜ r ≡ inHouse (toHouse tag code) ⌝ }
 {
-    if row.kind == rows::MARK {
-        return Value::Off;
-    }
-    match scale::to_house(row.tag, row.code) {
+    match scale::to_house(tag, code) {
         ToHouse::Is(house) => Value::At(house.value),
         ToHouse::Refused(_) => Value::Off,
     }
 }
 
-// A row that counts for a tag: a reading or a mark, never a carried one.
-fn is_present(row: RowWords, tag: u64) -> bool
-    ensures { λ r. ⌜ r ≡ (eqb (row .tag) tag && isNumber (rowSays row)) ⌝ }
+// Where the value of a known tag ends, 0 where there is none.
+fn end_of(known: TagSet, past: &[u16; 128], tag: u64) -> usize
+    requires { ⌜ endIn known (now past) tag < 2 ^ 64 ⌝ }
+    ensures { λ r. ⌜ r ≡ endIn known (now (past .entry)) tag ⌝ }
 {
-    let kind = row.kind;
-    if row.tag == tag {
-        if kind == rows::READING {
-            return true;
-        }
-        return kind == rows::MARK;
+    if tagset::has(known, tag) {
+        let at = tag as usize;
+        return past[at] as usize;
     }
-    false
+    0
 }
 
-// The row of a tag, if it is present.
-fn value_in(words: &[u64], count: usize, tag: u64) -> Value
-    ensures { λ r. ⌜ r ≡ valueFor tag (rowsIn 0 count (now (words .entry))) ⌝ }
+// A height: all have the scale of 15, which stands here as a constant, so that the compiler works the scale out.
+fn height_at(packet: &[u8], known: TagSet, past: &[u16; 128], tag: u64) -> Value
+    requires { ⌜ Placed known (now packet) (now past) × Like tag 15 2 ⌝ }
+    ensures { λ r. ⌜ r ≡ valueFor tag (rowsHeld known (now (packet .entry))) ⌝ }
 {
-    let mut n: usize = 0;
-    while n < count {
-        let row = rows::row_at(words, n);
-        if is_present(row, tag) {
-            return value_of(row);
-        }
-        n += 1;
+    let end = end_of(known, past, tag);
+    if 0 < end {
+        return in_house(15, number::value(&packet[end - 2..end]));
+    }
+    Value::Absent
+}
+
+// A latitude, in the scale of 23.
+fn latitude_at(packet: &[u8], known: TagSet, past: &[u16; 128], tag: u64) -> Value
+    requires { ⌜ Placed known (now packet) (now past) × Like tag 23 4 ⌝ }
+    ensures { λ r. ⌜ r ≡ valueFor tag (rowsHeld known (now (packet .entry))) ⌝ }
+{
+    let end = end_of(known, past, tag);
+    if 0 < end {
+        return in_house(23, number::value(&packet[end - 4..end]));
+    }
+    Value::Absent
+}
+
+// A longitude, in the scale of 24.
+fn longitude_at(packet: &[u8], known: TagSet, past: &[u16; 128], tag: u64) -> Value
+    requires { ⌜ Placed known (now packet) (now past) × Like tag 24 4 ⌝ }
+    ensures { λ r. ⌜ r ≡ valueFor tag (rowsHeld known (now (packet .entry))) ⌝ }
+{
+    let end = end_of(known, past, tag);
+    if 0 < end {
+        return in_house(24, number::value(&packet[end - 4..end]));
+    }
+    Value::Absent
+}
+
+// A corner's offset from the frame centre, in the scale of 26.
+fn offset_at(packet: &[u8], known: TagSet, past: &[u16; 128], tag: u64) -> Value
+    requires { ⌜ Placed known (now packet) (now past) × Like tag 26 2 ⌝ }
+    ensures { λ r. ⌜ r ≡ valueFor tag (rowsHeld known (now (packet .entry))) ⌝ }
+{
+    let end = end_of(known, past, tag);
+    if 0 < end {
+        return in_house(26, number::value(&packet[end - 2..end]));
     }
     Value::Absent
 }
 
 // A height by its row over the ellipsoid, else by the one over mean sea level.
-fn height_in(words: &[u64], count: usize, ellipsoid: u64, sea: u64) -> Height
-    ensures { λ r. ⌜ heightSaid r ≡ given (heightIn ellipsoid sea (rowsIn 0 count (now (words .entry)))) ⌝ }
+fn height_in(packet: &[u8], known: TagSet, past: &[u16; 128], ellipsoid: u64, sea: u64) -> Height
+    requires { ⌜ Placed known (now packet) (now past) × Like ellipsoid 15 2 × Like sea 15 2 ⌝ }
+    ensures { λ r. ⌜ heightSaid r ≡ given (heightIn ellipsoid sea (rowsHeld known (now (packet .entry)))) ⌝ }
 {
-    match value_in(words, count, ellipsoid) {
+    match height_at(packet, known, past, ellipsoid) {
         Value::At(over) => Height::OverEllipsoid(EllipsoidHeight(over)),
         Value::Off => Height::Missing,
-        Value::Absent => match value_in(words, count, sea) {
+        Value::Absent => match height_at(packet, known, past, sea) {
             Value::At(above) => Height::OverSeaLevel(SeaLevelHeight(above)),
             Value::Off => Height::Missing,
             Value::Absent => Height::Missing,
@@ -110,12 +134,14 @@ fn height_in(words: &[u64], count: usize, ellipsoid: u64, sea: u64) -> Height
 }
 
 fn height_by(packet: &[u8], known: TagSet, ellipsoid: u64, sea: u64) -> Height
+    requires { ⌜ Like ellipsoid 15 2 × Like sea 15 2 ⌝ }
     ensures { λ r. ⌜ heightSaid r ≡ fromRows (heightIn ellipsoid sea) known (now (packet .entry)) ⌝ }
 {
-    let mut table = [0u64; 512];
-    match reader::read(packet, known, &mut table) {
-        Reading::Refused(refusal) => Height::Refused(refusal),
-        Reading::Rows(filled) => height_in(&table, filled.count, ellipsoid, sea),
+    let located = packet::locate(packet, known);
+    let answer = located.answer;
+    match answer {
+        Checked::Refused(refusal) => Height::Refused(refusal),
+        Checked::Accepted(_) => height_in(packet, known, &located.past, ellipsoid, sea),
     }
 }
 
@@ -131,13 +157,6 @@ pub fn frame_centre_height(packet: &[u8], known: TagSet) -> Height
     ensures { λ r. ⌜ heightSaid r ≡ frameCentreHeight known (now (packet .entry)) ⌝ }
 {
     height_by(packet, known, 78, 25)
-}
-
-// A coordinate from a full row.
-fn full_coordinate(words: &[u64], count: usize, full: u64) -> Value
-    ensures { λ r. ⌜ r ≡ fullCoordinate full (rowsIn 0 count (now (words .entry))) ⌝ }
-{
-    value_in(words, count, full)
 }
 
 // The plain sum of two values, where both are there; a mark is no number.
@@ -158,15 +177,6 @@ fn sum(centre: Value, offset: Value) -> Value
             Value::At(by) => Value::At(from + by),
         },
     }
-}
-
-// A coordinate from the frame centre's row and an offset row.
-fn offset_coordinate(words: &[u64], count: usize, centre: u64, offset: u64) -> Value
-    ensures { λ r. ⌜ r ≡ offsetCoordinate centre offset (rowsIn 0 count (now (words .entry))) ⌝ }
-{
-    let from = value_in(words, count, centre);
-    let by = value_in(words, count, offset);
-    sum(from, by)
 }
 
 // Two coordinates make a point where both are there; a mark in either puts it off the Earth.
@@ -191,27 +201,32 @@ fn point_of(latitude: Value, longitude: Value) -> Corner
     }
 }
 
-fn full_corner(words: &[u64], count: usize, k: u64) -> Corner
-    requires { ⌜ k < 5 ⌝ }
-    ensures { λ r. ⌜ cornerSaid r ≡ given (fullCorner k (rowsIn 0 count (now (words .entry)))) ⌝ }
+fn full_corner(packet: &[u8], known: TagSet, past: &[u16; 128], k: u64) -> Corner
+    requires { ⌜ Placed known (now packet) (now past) × (0 < k) × (k < 5) ⌝ }
+    ensures { λ r. ⌜ cornerSaid r ≡ given (fullCorner k (rowsHeld known (now (packet .entry)))) ⌝ }
 {
-    let latitude = full_coordinate(words, count, 80 + 2 * k);
-    let longitude = full_coordinate(words, count, 81 + 2 * k);
+    let latitude = latitude_at(packet, known, past, 80 + 2 * k);
+    let longitude = longitude_at(packet, known, past, 81 + 2 * k);
     point_of(latitude, longitude)
 }
 
-fn offset_corner(words: &[u64], count: usize, k: u64) -> Corner
-    requires { ⌜ k < 5 ⌝ }
-    ensures { λ r. ⌜ cornerSaid r ≡ given (offsetCorner k (rowsIn 0 count (now (words .entry)))) ⌝ }
+fn offset_corner(packet: &[u8], known: TagSet, past: &[u16; 128], k: u64) -> Corner
+    requires { ⌜ Placed known (now packet) (now past) × (0 < k) × (k < 5) ⌝ }
+    ensures { λ r. ⌜ cornerSaid r ≡ given (offsetCorner k (rowsHeld known (now (packet .entry)))) ⌝ }
 {
-    let latitude = offset_coordinate(words, count, 23, 24 + 2 * k);
-    let longitude = offset_coordinate(words, count, 24, 25 + 2 * k);
+    let north = latitude_at(packet, known, past, 23);
+    let up = offset_at(packet, known, past, 24 + 2 * k);
+    let east = longitude_at(packet, known, past, 24);
+    let right = offset_at(packet, known, past, 25 + 2 * k);
+    let latitude = sum(north, up);
+    let longitude = sum(east, right);
     point_of(latitude, longitude)
 }
 
 // The full rows decide where both are there, also by a mark.
-fn corner_in(words: &[u64], count: usize, k: u64) -> Corner
-    ensures { λ r. ⌜ cornerSaid r ≡ given (cornerIn k (rowsIn 0 count (now (words .entry)))) ⌝ }
+fn corner_in(packet: &[u8], known: TagSet, past: &[u16; 128], k: u64) -> Corner
+    requires { ⌜ Placed known (now packet) (now past) ⌝ }
+    ensures { λ r. ⌜ cornerSaid r ≡ given (cornerIn k (rowsHeld known (now (packet .entry)))) ⌝ }
 {
     if k == 0 {
         return Corner::Missing;
@@ -219,9 +234,9 @@ fn corner_in(words: &[u64], count: usize, k: u64) -> Corner
     if 5 <= k {
         return Corner::Missing;
     }
-    let full = full_corner(words, count, k);
+    let full = full_corner(packet, known, past, k);
     match full {
-        Corner::Missing => offset_corner(words, count, k),
+        Corner::Missing => offset_corner(packet, known, past, k),
         Corner::OffTheEarth => full,
         Corner::At(_) => full,
         Corner::Refused(_) => full,
@@ -232,9 +247,10 @@ fn corner_in(words: &[u64], count: usize, k: u64) -> Corner
 pub fn corner_at(packet: &[u8], known: TagSet, k: u64) -> Corner
     ensures { λ r. ⌜ cornerSaid r ≡ cornerOf k known (now (packet .entry)) ⌝ }
 {
-    let mut table = [0u64; 512];
-    match reader::read(packet, known, &mut table) {
-        Reading::Refused(refusal) => Corner::Refused(refusal),
-        Reading::Rows(filled) => corner_in(&table, filled.count, k),
+    let located = packet::locate(packet, known);
+    let answer = located.answer;
+    match answer {
+        Checked::Refused(refusal) => Corner::Refused(refusal),
+        Checked::Accepted(_) => corner_in(packet, known, &located.past, k),
     }
 }

@@ -1,5 +1,6 @@
 -- `ground::corner_in` meets its contract.
 -- Assumes nothing.
+use native.Mathlib.Omega.{arith}
 use borrow.Author.Needs.{needs}
 use Rattle.ground.proofs.Answers.{no-corner-0, no-corner-5, by-offset, by-full}
 use Rattle.ground.proofs.corner_in.Statement.{statement}
@@ -12,13 +13,15 @@ returns-2 : tie.Need-returns-2
 returns-2 c = no-corner-5 _ _ (c .if2 .taken)
 
 full-corner-requires : tie.Need-full-corner-requires
-full-corner-requires c κs = search needs
+full-corner-requires c κs = (c .before .before .before .pre, omega (arith, c .before .if1 .left), omega (arith, c .if2 .left))
 
 enum-told : tie.Need-enum-told
 enum-told c = search needs
 
 offset-corner-requires : tie.Need-offset-corner-requires
-offset-corner-requires c κs = search needs
+offset-corner-requires c κs =
+    let k = c .before .before .before in
+    (k .before .before .before .pre, omega (arith, k .before .if1 .left), omega (arith, k .if2 .left))
 
 enum-told-2 : tie.Need-enum-told-2
 enum-told-2 c = search needs

@@ -4,43 +4,44 @@ use mathlib.Core.Path.{ap₂, _∙_}
 use borrow.Author.Needs.{needs}
 use Rattle.refusal.specs.Answer.{given}
 use Rattle.ground.specs.Ground.{pointOf, fullCorner}
+use Rattle.ground.proofs.Alike.{like-latitude, like-longitude}
 use Rattle.ground.proofs.full_corner.Statement.{statement}
 use Rattle.ground.proofs.full_corner.Tie as tie
 
-mul-full-coordinate : tie.Need-mul-full-coordinate
-mul-full-coordinate c = search needs
+mul-latitude-at : tie.Need-mul-latitude-at
+mul-latitude-at c = search needs
 
-add-full-coordinate : tie.Need-add-full-coordinate
-add-full-coordinate c = search needs
+add-latitude-at : tie.Need-add-latitude-at
+add-latitude-at c = search needs
 
-full-coordinate-requires : tie.Need-full-coordinate-requires
-full-coordinate-requires c κs = search needs
+latitude-at-requires : tie.Need-latitude-at-requires
+latitude-at-requires c κs = let h = c .before .pre in (h .0, like-latitude _ (h .1) (h .2))
 
-mul-full-coordinate-2 : tie.Need-mul-full-coordinate-2
-mul-full-coordinate-2 c = search needs
+mul-longitude-at : tie.Need-mul-longitude-at
+mul-longitude-at c = search needs
 
-add-full-coordinate-2 : tie.Need-add-full-coordinate-2
-add-full-coordinate-2 c = search needs
+add-longitude-at : tie.Need-add-longitude-at
+add-longitude-at c = search needs
 
-full-coordinate-requires-2 : tie.Need-full-coordinate-requires-2
-full-coordinate-requires-2 c κs = search needs
+longitude-at-requires : tie.Need-longitude-at-requires
+longitude-at-requires c κs = let h = c .before .before .pre in (h .0, like-longitude _ (h .1) (h .2))
 
 point-of-requires : tie.Need-point-of-requires
 point-of-requires c κs = search needs
 
 returns : tie.Need-returns
 unfolding fullCorner
-returns c = c .point-of .ensures ∙ ap₂ (λ a b. given (pointOf a b)) (c .before .before .full-coordinate .ensures) (c .before .full-coordinate2 .ensures)
+returns c = c .point-of .ensures ∙ ap₂ (λ a b. given (pointOf a b)) (c .before .before .latitude-at .ensures) (c .before .longitude-at .ensures)
 
 pub full-corner-spec : {M : Type 1} → statement M
 full-corner-spec =
     tie.close
     (tie.spec
-    mul-full-coordinate
-    add-full-coordinate
-    full-coordinate-requires
-    mul-full-coordinate-2
-    add-full-coordinate-2
-    full-coordinate-requires-2
+    mul-latitude-at
+    add-latitude-at
+    latitude-at-requires
+    mul-longitude-at
+    add-longitude-at
+    longitude-at-requires
     point-of-requires
     returns)
