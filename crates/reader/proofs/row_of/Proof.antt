@@ -1,33 +1,39 @@
 -- `reader::row_of` meets its contract.
 -- Assumes nothing.
 use Prim.Native.Nat.{_+_, _-_, _*_, _/_, _%_, _^_}
-use mathlib.Core.Path.{sym, ap, _∙_}
+use mathlib.Core.Path.{_≡_, sym, ap, _∙_}
 use lib.ListN.{length, take, drop}
 use Rattle.number.specs.Stored.{valueOf}
 use Rattle.number.proofs.Laws.{bytes-lent}
 use Rattle.tagset.specs.Sets.{holds}
 use Rattle.catalogue.specs.code.Column.{shapeByte}
+use Rattle.packet.specs.code.Headers.{itemBy}
 use Rattle.packet.specs.Rows.{shapeFor, rowOf}
-use Rattle.reader.specs.code.Filling.{topOf, kindBy, Narrow}
+use Rattle.reader.specs.code.Filling.{topOf, kindBy}
 use Rattle.reader.proofs.Laws.{value-length}
 use Rattle.reader.proofs.Codes.{value-last, Tells, tells}
 use borrow.Author.Needs.{needs}
 use Rattle.reader.proofs.row_of.Statement.{statement}
 use Rattle.reader.proofs.row_of.Tie as tie
 
+-- what the function is called with
+abbrev start : tie.After-value → tie.Start
+start c = c .before .before .before .before .before
+
+size : (c : tie.After-value) → length (itemBy (start c .args .packet .now) (start c .args .item) .piece .value) ≡ start c .args .item .size
+size c = value-length _ (bytes-lent (c .before .before .before .before .shared-slice-known .given)) (start c .args .item) (start c .pre .1)
+
 -- what the shape's byte and the eight bytes tell of the value
 told : (c : tie.After-value)
-    → Tells (shapeFor (holds (c .before .before .before .before .before .args .known)) (c .before .before .before .before .before .args .item .tag))
-    (take (c .before .before .before .before .before .args .item .size) (drop (c .before .before .before .before .before .args .item .place) (c .before .before .before .before .before .args .packet .now))) (c .value .result)
+    → Tells (shapeFor (holds (start c .args .known)) (start c .args .item .tag))
+    (itemBy (start c .args .packet .now) (start c .args .item) .piece .value) (c .value .result)
 told c =
-    let s = c .before .before .before .before .before in
+    let s = start c in
     let i = s .args .item in
     let by = bytes-lent (c .before .before .before .before .shared-slice-known .given) in
-    let size = value-length (s .args .packet .now) by i (s .pre .1) in
-    let narrow : Narrow (shapeFor (holds (s .args .known)) (i .tag)) (length (take (i .size) (drop (i .place) (s .args .packet .now)))) = rw size (s .pre .3) in
-    tells _ _ _ narrow (λ n e few. ap (λ x. x % 256 ^ n) (c .value .ensures)
-    ∙ (value-last (s .args .packet .now) (i .place + i .size) (i .place) n by (ap (λ m. i .place + m) (e ∙ size)) few (s .pre .4) (s .pre .1)
-    ∙ ap (λ m. valueOf (take m (drop (i .place) (s .args .packet .now)))) (e ∙ size)))
+    tells _ _ _ (rw (size c) (s .pre .3)) (λ n e few. ap (λ x. x % 256 ^ n) (c .value .ensures)
+    ∙ (value-last _ (i .place + i .size) (i .place) n by (ap (λ m. i .place + m) (e ∙ size c)) few (s .pre .4) (s .pre .1)
+    ∙ ap (λ m. valueOf (take m (drop (i .place) (s .args .packet .now)))) (e ∙ size c)))
 
 add-end : tie.Need-add-end
 add-end c = search needs
@@ -77,8 +83,7 @@ returns c =
     ∙ (ap (kindBy (shapeByte (shapeFor (holds (s .args .known)) (i .tag)))) top ∙ told v .kind)) in
     let code = c .lowest .ensures ∙ (ap (λ b. c .before .before .topmost .result / 2 ^ (64 - 8 * (b % 16))) byte
     ∙ (ap (λ t. t / 2 ^ (64 - 8 * (shapeByte (shapeFor (holds (s .args .known)) (i .tag)) % 16))) top ∙ told v .code)) in
-    let size = value-length (s .args .packet .now) (bytes-lent (c .before .before .before .before .before .before .before .shared-slice-known .given)) i (s .pre .1) in
-    λ k. record { tag = i .tag; kind = kind k; code = code k; part = i .place * 65536 + sym size k }
+    λ k. record { tag = i .tag; kind = kind k; code = code k; part = i .place * 65536 + sym (size v) k }
 
 pub row-of-spec : {M : Type 1} → statement M
 row-of-spec =
