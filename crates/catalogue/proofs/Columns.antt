@@ -71,18 +71,16 @@ number-wide w m e =
 
 -- what a byte of such a shape says
 record Says (s : Shape) : Type 0 where
-  small : shapeByte s < 256
   width : shapeByte s % 16 ≡ shapeWidth s
   shape : shapeFrom (shapeByte s) ≡ s
 
 says : (s : Shape) → wide s ≡ true → Says s
-says Text e = record { small = omega arith; width = refl; shape = refl }
+says Text e = record { width = refl; shape = refl }
 says (Number w true) e =
     let n = number-wide w true e in
     let k : (144 + w) / 16 % 8 ≡ 1 = omega (arith, n .few) in
     let v : (144 + w) % 16 ≡ w = omega (arith, n .few) in
     record {
-      small = omega (arith, n .few);
       width = v;
       shape = rw (k, v, le-leb 128 (144 + w) (omega arith));
     }
@@ -91,14 +89,10 @@ says (Number w false) e =
     let k : (16 + w) / 16 % 8 ≡ 1 = omega (arith, n .few) in
     let v : (16 + w) % 16 ≡ w = omega (arith, n .few) in
     record {
-      small = omega (arith, n .few);
       width = v;
       shape = rw (k, v, lt-leb 128 (16 + w) (omega (arith, n .few)));
     }
-says Absent e = record { small = omega arith; width = refl; shape = refl }
-
-pub byte-small : (t : ℕ) → t < 128 → getD shapeColumn t 0 < 256
-byte-small t h = rw (byte-in-column t h) (says (shapeOf t) (shape-wide t h) .small)
+says Absent e = record { width = refl; shape = refl }
 
 pub width-in-column : (t : ℕ) → t < 128 → widthIn shapeColumn t ≡ shapeWidth (shapeOf t)
 unfolding widthIn
@@ -110,18 +104,6 @@ shape-in-column t =
     byLt t 128
     (λ h. rw (lt-leb 128 t h, byte-in-column t h) (says (shapeOf t) (shape-wide t h) .shape))
     (λ h. rw (le-leb 128 t h) (sym (shape-beyond t h)))
-
--- the width that the column has is 0, 1, 2, 4 or 8
-by-shape {ℓ} : {C : Type ℓ} (s : Shape) (v : ℕ) → wide s ≡ true → v ≡ shapeWidth s
-    → (v ≡ 0 → C) → (v ≡ 1 → C) → (v ≡ 2 → C) → (v ≡ 4 → C) → (v ≡ 8 → C) → C
-by-shape Text v e p none one two four eight = none p
-by-shape (Number w m) v e p none one two four eight =
-    by-wide w m e (λ q. one (p ∙ q)) (λ q. two (p ∙ q)) (λ q. four (p ∙ q)) (λ q. eight (p ∙ q))
-by-shape Absent v e p none one two four eight = none p
-
-pub by-width {ℓ} : {C : Type ℓ} (t : ℕ) → t < 128 → (widthIn shapeColumn t ≡ 0 → C) → (widthIn shapeColumn t ≡ 1 → C)
-    → (widthIn shapeColumn t ≡ 2 → C) → (widthIn shapeColumn t ≡ 4 → C) → (widthIn shapeColumn t ≡ 8 → C) → C
-by-width t h = by-shape (shapeOf t) (widthIn shapeColumn t) (shape-wide t h) (width-in-column t h)
 
 number-bytes : (t w : ℕ) (m : Bool) → shapeOf t ≡ Number w m → Wide w
 number-bytes t w m e =

@@ -12,8 +12,6 @@ use Rattle.catalogue.proofs.shape_at.Kinds as shape-at-kinds
 use Rattle.catalogue.proofs.shape_at.Reads as shape-at-reads
 use Rattle.catalogue.proofs.allows_length.Kinds as allows-length-kinds
 use Rattle.catalogue.proofs.allows_length.Reads as allows-length-reads
-use Rattle.catalogue.proofs.allows_length_at.Kinds as allows-length-at-kinds
-use Rattle.catalogue.proofs.allows_length_at.Reads as allows-length-at-reads
 use Rattle.catalogue.proofs.limits_codes.Kinds as limits-codes-kinds
 use Rattle.catalogue.proofs.limits_codes.Reads as limits-codes-reads
 use Rattle.catalogue.proofs.allows_code.Kinds as allows-code-kinds
@@ -39,6 +37,3 @@ allows-code-determined κs a z z′ e e′ p q = p ∙ sym q
 
 pub limits-codes-determined : Answered 0 limits-codes-kinds.ps limits-codes-kinds.r limits-codes-reads.Post
 limits-codes-determined κs a z z′ e e′ p q = p ∙ sym q
-
-pub allows-length-at-determined : Answered 1 allows-length-at-kinds.ps allows-length-at-kinds.r allows-length-at-reads.Post
-allows-length-at-determined κs a z z′ e e′ p q = p ∙ sym q

@@ -292,25 +292,6 @@ pub fn allows_length(shape: Shape, n: usize) -> bool
     }
 }
 
-// Whether a value of the shape that a column has for a tag may have n bytes.
-pub fn allows_length_at(column: &[u8; 128], tag: u64, n: usize) -> bool
-    ensures { λ r. ⌜ r ≡ shapeAllows (shapeIn (now (column .entry)) tag) n ⌝ }
-{
-    if 128 <= tag {
-        return false;
-    }
-    let at = tag as usize;
-    let byte = number::wide(column[at]);
-    let kind = byte / 16 % 8;
-    if kind == 4 {
-        return false;
-    }
-    if kind == 3 {
-        return allows_length(Shape::Text, n);
-    }
-    n == (byte % 16) as usize
-}
-
 // Whether an item takes only some of its codes.
 pub fn limits_codes(tag: u64) -> bool
     ensures { λ r. ⌜ r ≡ codesLimited tag ⌝ }
