@@ -339,47 +339,36 @@ fn pass(packet: &[u8], from: usize, known: TagSet, past: &mut [u16; 128]) -> Pas
 {
     let column = catalogue::shapes();
     let words = [known.low, known.high];
-    let mut here = from;
-    let mut count: usize = 0;
-    let mut last = from;
-    let mut longer: usize = 0;
-    let mut wrong = false;
-    while here < packet.len() {
+    let mut passed = Passed {
+        here: from,
+        count: 0,
+        last: from,
+        longer: 0,
+        wrong: false,
+    };
+    while passed.here < packet.len() {
+        let here = passed.here;
+        let count = passed.count;
         if count == 128 {
-            return Passed {
-                here,
-                count,
-                last,
-                longer,
-                wrong,
-            };
+            return passed;
         }
         let item = glance_at(packet, here);
         let tag = item.tag;
         let end = item.past;
         if packet.len() < end {
-            return Passed {
-                here,
-                count,
-                last,
-                longer,
-                wrong,
-            };
+            return passed;
         }
-        wrong = wrong | looks_wrong(&column, &words, past, item);
+        let wrong = passed.wrong | looks_wrong(&column, &words, past, item);
         past[tag] = end as u16;
-        count += 1;
-        last = here;
-        longer += item.longer;
-        here = end;
+        passed = Passed {
+            here: end,
+            count: count + 1,
+            last: here,
+            longer: passed.longer + item.longer,
+            wrong,
+        };
     }
-    Passed {
-        here,
-        count,
-        last,
-        longer,
-        wrong,
-    }
+    passed
 }
 
 fn has_key(packet: &[u8]) -> bool

@@ -1,6 +1,5 @@
 // The relay: a packet sent on, with all that it does not know.
 // Whoever reads what was sent on reads what the original says; a refusal leaves the output.
-ghost use mathlib.Core.Path.{_≡_};
 ghost use Prim.Native.Nat.{_+_, _≤_};
 ghost use lib.ListN.{length};
 ghost use Rattle.base.specs.Putting.{Room, Wrote};

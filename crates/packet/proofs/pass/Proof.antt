@@ -14,37 +14,32 @@ use Rattle.packet.proofs.pass.Statement.{statement}
 use Rattle.packet.proofs.pass.Tie as tie
 
 abbrev Inv-loop : tie.InvT-loop
-Inv-loop packet from past₀ column words here₀ count₀ last₀ longer₀ wrong₀ past here count last longer wrong =
-    Going (knowing (getD words 0 0) (getD words 1 0)) packet from past₀
-    (record { passed = record { here = here; count = count; last = last; longer = longer; wrong = wrong }; past = past })
+Inv-loop packet from past₀ column words passed₀ past passed =
+    Going (knowing (getD words 0 0) (getD words 1 0)) packet from past₀ (record { passed = passed; past = past })
 
 abbrev μ-loop : tie.MeasureT-loop
-μ-loop packet from past₀ column words here₀ count₀ last₀ longer₀ wrong₀ past here count last longer wrong = length packet - here
+μ-loop packet from past₀ column words passed₀ past passed = length packet - passed .here
 
-bytes : (c : tie.After-glance-at Inv-loop μ-loop) → Bytes (c .before .before .before .before .before .before .args .packet .now)
-bytes c = record { byte = λ i. c .before .before .before .before .before .shared-slice-known .given i .fits }
+bytes : (c : tie.After-glance-at Inv-loop μ-loop) → Bytes (c .before .before .before .before .before .before .before .args .packet .now)
+bytes c = record { byte = λ i. c .before .before .before .before .before .before .shared-slice-known .given i .fits }
 
 -- the item found at the loop's place, and that its end lies in the packet
-seen : (c : tie.Else2 Inv-loop μ-loop) → SeenAt (c .before .before .before .before .before .before .before .args .packet .now)
-    (c .before .before .before .before .loop .here) (c .before .glance-at .result)
-seen c = c .before .glance-at .ensures .item (c .if2 .left)
+seen : (c : tie.Else3 Inv-loop μ-loop) → SeenAt (c .before .before .before .before .before .before .before .before .args .packet .now) (c .before .before .before .before .before .loop .passed .here) (c .before .glance-at .result)
+seen c = c .before .glance-at .ensures .item (c .if3 .left)
 
-small-tag : (c : tie.Else2 Inv-loop μ-loop) → c .before .glance-at .result .tag < 128
+small-tag : (c : tie.Else3 Inv-loop μ-loop) → c .before .glance-at .result .tag < 128
 small-tag c = rw (seen c .same) (short-tag (seen c .header .tag))
 
-onward : (c : tie.Else2 Inv-loop μ-loop) → c .before .before .before .before .loop .here < c .before .glance-at .result .past
+onward : (c : tie.Else3 Inv-loop μ-loop) → c .before .before .before .before .before .loop .passed .here < c .before .glance-at .result .past
 onward c = rw (seen c .same) (header-lies _ _ (bytes (c .before)) _ (seen c .found) .on)
 
 -- what is kept, with the item
-stepped : (c : tie.Else2 Inv-loop μ-loop) → (let l = c .before .before .before .before .loop in
-    let a = c .before .before .before .before .before .before .before .args in
+stepped : (c : tie.Else3 Inv-loop μ-loop) → (let l = c .before .before .before .before .before .loop in let a = c .before .before .before .before .before .before .before .before .args in
     Going (a .known) (a .packet .now) (a .from) (a .past .now)
-    (withGlance (a .known)
-    (record { passed = record { here = l .here; count = l .count; last = l .last; longer = l .longer; wrong = l .wrong }; past = l .past })
-    (c .before .glance-at .result)))
+    (withGlance (a .known) (record { passed = l .passed; past = l .past }) (c .before .glance-at .result)))
 stepped c =
-    going-glance _ _ (bytes (c .before)) _ _ _ (c .before .before .before .before .loop .inv) (c .before .before .before .loop-test .taken)
-    (c .before .before .if1 .left) _ (c .before .glance-at .ensures) (c .if2 .left)
+    going-glance _ _ (bytes (c .before)) _ _ _ (c .before .before .before .before .before .loop .inv) (c .before .before .before .if1 .taken) (c .before .before .if2 .left) _ (c .before .glance-at .ensures)
+    (c .if3 .left)
 
 shapes-requires : tie.Need-shapes-requires Inv-loop μ-loop
 shapes-requires c κs = search needs
@@ -54,62 +49,62 @@ loop-holds c = going-begin _ _ _ _
 
 returns : tie.Need-returns Inv-loop μ-loop
 returns c =
-    let l = c .before .before .loop in
+    let i = c .before .before .before .loop .inv in
     record {
-      few = l .inv .few;
-      goes = l .inv .goes;
-      stops = λ h. record { before = h; few = l .inv .few; none = λ other. absurd (other (c .if1 .taken)) };
+      few = i .few;
+      goes = i .goes;
+      stops = λ h. record { before = h; few = i .few; none = λ other. absurd (other (c .if2 .taken)) };
     }
 
 glance-at-requires : tie.Need-glance-at-requires Inv-loop μ-loop
-glance-at-requires c κs = c .before .before .before .before .before .pre .0
+glance-at-requires c κs = c .before .before .before .before .before .before .pre .0
 
 returns-2 : tie.Need-returns-2 Inv-loop μ-loop
 returns-2 c =
-    let l = c .before .before .before .before .loop in
+    let i = c .before .before .before .before .before .loop .inv in
     record {
-      few = l .inv .few;
-      goes = l .inv .goes;
-      stops = λ h. record { before = h; few = l .inv .few; none = λ _. c .before .glance-at .ensures .none (c .if2 .taken) };
+      few = i .few;
+      goes = i .goes;
+      stops = λ h. record { before = h; few = i .few; none = λ _. c .before .glance-at .ensures .none (c .if3 .taken) };
     }
 
 looks-wrong-requires : tie.Need-looks-wrong-requires Inv-loop μ-loop
 looks-wrong-requires c κs =
-    let k = c .before .before .before .before .before .before .before .before .before .before in
+    let k = c .before .before .before .before .before .before .before .before .before .before .before in
     let words : TwoWords (k .args .known .low ∷ k .args .known .high ∷ []) = record { low = omega (arith, k .good); high = omega (arith, k .good) } in
-    (c .before .before .before .before .before .before .before .before .shapes .ensures, words, small-tag (c .before .before .before))
+    (c .before .before .before .before .before .before .before .before .before .shapes .ensures, words, small-tag (c .before .before .before))
 
 cast-past : tie.Need-cast-past Inv-loop μ-loop
 cast-past c =
-    let e = c .before .before .before .before in
-    omega (arith, e .if2 .left, e .before .before .before .before .before .before .before .pre .1)
+    let e = c .before .before .before .before .before in
+    omega (arith, e .if3 .left, e .before .before .before .before .before .before .before .before .pre .1)
 
 mul-past : tie.Need-mul-past Inv-loop μ-loop
-mul-past c = omega (arith, small-tag (c .before .before .before .before))
+mul-past c = omega (arith, small-tag (c .before .before .before .before .before))
 
 element-write-past : tie.Need-element-write-past Inv-loop μ-loop
-element-write-past c = small-tag (c .before .before .before .before)
+element-write-past c = small-tag (c .before .before .before .before .before)
 
-add-count : tie.Need-add-count Inv-loop μ-loop
-add-count c = omega (arith, c .before .before .before .before .before .before .before .before .loop .inv .few)
+add-t15 : tie.Need-add-t15 Inv-loop μ-loop
+add-t15 c = omega (arith, c .before .before .before .before .before .before .before .before .before .before .loop .inv .few)
 
-add-longer : tie.Need-add-longer Inv-loop μ-loop
-add-longer c =
-    let e = c .before .before .before .before .before in
-    omega (arith, stepped e .less, e .if2 .left, e .before .before .before .before .before .before .before .pre .1)
+add-t23 : tie.Need-add-t23 Inv-loop μ-loop
+add-t23 c =
+    let e = c .before .before .before .before .before .before .before in
+    omega (arith, stepped e .less, e .if3 .left, e .before .before .before .before .before .before .before .before .pre .1)
 
 loop-less : tie.Need-loop-less Inv-loop μ-loop
 loop-less c =
-    let e = c .before .before .before .before .before in
-    omega (arith, onward e, e .before .before .before .loop-test .taken)
+    let e = c .before .before .before .before .before .before .before in
+    omega (arith, onward e, e .before .before .before .if1 .taken)
 
 loop-again : tie.Need-loop-again Inv-loop μ-loop
-loop-again c = rw (c .before .looks-wrong .ensures) (stepped (c .before .before .before .before .before))
+loop-again c = rw (c .before .before .before .looks-wrong .ensures) (stepped (c .before .before .before .before .before .before .before))
 
 returns-3 : tie.Need-returns-3 Inv-loop μ-loop
 returns-3 c =
-    let l = c .before .loop in
-    record { few = l .inv .few; goes = l .inv .goes; stops = λ h. absurd (omega (arith, c .loop-test .left)) }
+    let i = c .before .before .loop .inv in
+    record { few = i .few; goes = i .goes; stops = λ h. absurd (omega (arith, c .if1 .left)) }
 
 pub pass-spec : {M : Type 1} → statement M
 pass-spec =
@@ -126,8 +121,8 @@ pass-spec =
     cast-past
     mul-past
     element-write-past
-    add-count
-    add-longer
+    add-t15
+    add-t23
     loop-less
     loop-again
     returns-3)
