@@ -9,7 +9,7 @@ use mathlib.Core.List.{List, [], _∷_}
 use lib.Dec.{ltb, eqb}
 use lib.ListN.{length, take, drop, getD, set, length-set, length-take, length-replicate, getD-replicate}
 use lib.Seq.{getD-set-same, getD-set-other}
-use borrow.Author.Tests.{eqb-true, eq-eqb, ne-eqb, lt-ltb, le-ltb}
+use borrow.Author.Tests.{eqb-true, eq-eqb, ne-eqb}
 use Rattle.base.proofs.Cases.{byBool, byLt, byEq, clash, never}
 use Rattle.refusal.specs.Answer.{given, refusal, orElse}
 use Rattle.refusal.specs.declared.Refusal.{Refusal}
@@ -37,6 +37,7 @@ use Rattle.packet.specs.Rows.{rowOf, rowsOf}
 use Rattle.packet.specs.code.Headers.{itemBy}
 use Rattle.packet.proofs.Walks.{header-lies, header-back}
 use Rattle.packet.proofs.Walked.{Walked, done, went, walked}
+use Rattle.packet.proofs.Passing.{short-same, short-other}
 use Rattle.packet.proofs.Accepting.{accepting}
 use Rattle.laws.proofs.Clean.{fine-clean}
 use Rattle.scale.specs.Scales.{codes, half, origin, reach, steps, isNumber}
@@ -76,16 +77,6 @@ module _ (K : TagSet) (p : List ℕ) (t : ℕ) (i : Item) (knows : holds K t ≡
   unfolding valueFor rowOf
   skipped j rs n = rw (ne-eqb _ _ n)
 
-  -- the slot of a tag
-  its-slot : oneByte t ≡ t
-  its-slot = rw (lt-ltb t 128 below)
-
-  other-slot : (u : ℕ) → (u ≡ t → ⊥) → t ≡ oneByte u → ⊥
-  other-slot u n e =
-      byLt u 128
-      (λ h. n (sym (rw (lt-ltb u 128 h) at e)))
-      (λ h. let z : t ≡ 0 = rw (le-ltb u 128 h) at e in absurd (omega arith))
-
   -- the place past it stays where no item more has the tag
   stays : (l : List ℕ) (is : List pieces.Item) → ((k : ℕ) → k < length (pieces.pieces is) → pieceAt (pieces.pieces is) k .tag ≡ t → ⊥)
       → getD (pastFrom l is) t 0 ≡ getD l t 0
@@ -93,7 +84,7 @@ module _ (K : TagSet) (p : List ℕ) (t : ℕ) (i : Item) (knows : holds K t ≡
   stays l [] n = refl
   stays l (j ∷ js) n =
       stays (set l (oneByte (j .piece .tag)) (j .place + length (j .piece .value))) js (λ k h. n (suc k) (suc-le-suc h))
-      ∙ getD-set-other l (oneByte (j .piece .tag)) t _ 0 (other-slot (j .piece .tag) (n 0 (omega arith)))
+      ∙ getD-set-other l (oneByte (j .piece .tag)) t _ 0 (short-other t (j .piece .tag) some (λ q. n 0 (omega arith) (sym q)))
 
   -- what the rows say, by the place at which the value ends
   record Told (end : ℕ) (rs : List RowWords) : Type 0 where
@@ -130,7 +121,7 @@ module _ (K : TagSet) (p : List ℕ) (t : ℕ) (i : Item) (knows : holds K t ≡
         (λ q.
         let same : length v ≡ i .width = sized-so (length v) (rw q at (sized 0 (omega arith) (rw q knows))) in
         let long : length v ≡ h .size = ap (λ x. x .size) (header-back p h (lies .inside)) in
-        let slot : getD next t 0 ≡ e = rw (q, its-slot) (getD-set-same l t e 0 (rw full below)) in
+        let slot : getD next t 0 ≡ e = rw (q, short-same t below) (getD-set-same l t e 0 (rw full below)) in
         let last : getD (pastFrom next js) t 0 ≡ e =
         stays next js (λ k f g. once 0 (suc k) (omega arith) (suc-le-suc f) (rw g knows) (q ∙ sym g)) ∙ slot in
         let start : e - i .width ≡ h .place = omega (arith, same) in
@@ -142,7 +133,7 @@ module _ (K : TagSet) (p : List ℕ) (t : ℕ) (i : Item) (knows : holds K t ≡
           there = λ f. row-value (itemBy p h) (rowsOf (holds K) js) q ∙ ap (λ w. inHouse (toHouse t (valueOf w))) (sym part);
         }))
         (λ n.
-        let slot : getD next t 0 ≡ 0 = getD-set-other l (oneByte (h .tag)) t e 0 (other-slot (h .tag) n) ∙ fresh in
+        let slot : getD next t 0 ≡ 0 = getD-set-other l (oneByte (h .tag)) t e 0 (short-other t (h .tag) some (λ q. n (sym q))) ∙ fresh in
         let r = told next js (length-set l (oneByte (h .tag)) e ∙ full) slot rest (λ k f. sized (suc k) (suc-le-suc f))
         (λ a b c f. once (suc a) (suc b) (suc-le-suc c) (suc-le-suc f)) in
         let skip = skipped (itemBy p h) (rowsOf (holds K) js) n in

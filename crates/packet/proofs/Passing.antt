@@ -92,10 +92,10 @@ tracks-none =
 pub short-tag : (u : ℕ) → oneByte u < 128
 short-tag u = byLt u 128 (λ h. rw (lt-ltb u 128 h) h) (λ h. rw (le-ltb u 128 h) (omega arith))
 
-short-same : (u : ℕ) → u < 128 → oneByte u ≡ u
+pub short-same : (u : ℕ) → u < 128 → oneByte u ≡ u
 short-same u h = rw (lt-ltb u 128 h)
 
-short-other : (t u : ℕ) → 0 < t → (t ≡ u → ⊥) → t ≡ oneByte u → ⊥
+pub short-other : (t u : ℕ) → 0 < t → (t ≡ u → ⊥) → t ≡ oneByte u → ⊥
 short-other t u h other e =
     byLt u 128
     (λ k. other (e ∙ short-same u k))
