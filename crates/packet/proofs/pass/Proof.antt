@@ -24,7 +24,8 @@ bytes : (c : tie.After-glance-at Inv-loop μ-loop) → Bytes (c .before .before 
 bytes c = record { byte = λ i. c .before .before .before .before .before .before .shared-slice-known .given i .fits }
 
 -- the item found at the loop's place, and that its end lies in the packet
-seen : (c : tie.Else3 Inv-loop μ-loop) → SeenAt (c .before .before .before .before .before .before .before .before .args .packet .now) (c .before .before .before .before .before .loop .passed .here) (c .before .glance-at .result)
+seen : (c : tie.Else3 Inv-loop μ-loop) → (let l = c .before .before .before .before .before in
+    SeenAt (l .before .before .before .args .packet .now) (l .loop .passed .here) (c .before .glance-at .result))
 seen c = c .before .glance-at .ensures .item (c .if3 .left)
 
 small-tag : (c : tie.Else3 Inv-loop μ-loop) → c .before .glance-at .result .tag < 128
@@ -34,11 +35,12 @@ onward : (c : tie.Else3 Inv-loop μ-loop) → c .before .before .before .before 
 onward c = rw (seen c .same) (header-lies _ _ (bytes (c .before)) _ (seen c .found) .on)
 
 -- what is kept, with the item
-stepped : (c : tie.Else3 Inv-loop μ-loop) → (let l = c .before .before .before .before .before .loop in let a = c .before .before .before .before .before .before .before .before .args in
+stepped : (c : tie.Else3 Inv-loop μ-loop) → (let k = c .before .before .before .before .before in let l = k .loop in let a = k .before .before .before .args in
     Going (a .known) (a .packet .now) (a .from) (a .past .now)
     (withGlance (a .known) (record { passed = l .passed; past = l .past }) (c .before .glance-at .result)))
 stepped c =
-    going-glance _ _ (bytes (c .before)) _ _ _ (c .before .before .before .before .before .loop .inv) (c .before .before .before .if1 .taken) (c .before .before .if2 .left) _ (c .before .glance-at .ensures)
+    let d = c .before .before in
+    going-glance _ _ (bytes (c .before)) _ _ _ (d .before .before .before .loop .inv) (d .before .if1 .taken) (d .if2 .left) _ (c .before .glance-at .ensures)
     (c .if3 .left)
 
 shapes-requires : tie.Need-shapes-requires Inv-loop μ-loop
