@@ -1,6 +1,8 @@
 // The reader: of check and of read the row count or a refusal, then each row's four words; of a row taken out singly what it holds.
 ghost use mathlib.Core.Path.{_≡_};
 ghost use lib.ListN.{length};
+ghost use Rattle.refusal.specs.Answer.{orElse};
+ghost use Rattle.reader.specs.Reads.{readSaid};
 use crate::text::newline;
 use crate::text::sized;
 use crate::text::tab;
@@ -21,7 +23,9 @@ fn accepted(count: usize) {
 }
 
 // Writes what a reading came to, and answers how many rows there are to write: none after a refusal.
-pub fn answered(answer: Reading) -> usize {
+pub fn answered(answer: Reading) -> usize
+    ensures { λ r. ⌜ r ≡ orElse 0 (λ f. f .count) (readSaid answer) ⌝ }
+{
     say(STDOUT_FILENO, b"read\t");
     match answer {
         Reading::Rows(filled) => {
