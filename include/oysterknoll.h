@@ -1,5 +1,5 @@
 /*
- * Oysterknoll: MISB ST 0601 packets, the metadata that travels with drone video, read, judged, written and sent on.
+ * Oysterknoll: MISB ST 0601 packets, the metadata that travels with drone video, read, judged, built and sent on.
  *
  * The functions are those of a proved library, an archive of machine code for Linux on x86-64 (System V calling convention). Make it
  * with "rt staticlib oysterknoll" at the root of the repository and link it:
@@ -9,10 +9,11 @@
  * On Arm (aarch64) make it with "scripts/archive" and link target/staticlib/aarch64/liboysterknoll.a: the same proved source and the
  * same calls, compiled by another back end of LLVM.
  *
- * What each function answers is defined in the project's scope paper ("document 01") and proved of the code.
+ * What each function answers is defined in the project's scope paper ("document 01") and proved of the code. examples/ has programs that
+ * print the corners of a picture, build a packet from nothing, and read, change and write one.
  *
- * Every input gets an answer. Nothing has to be true of a packet, a table of rows, a knowing set, a tag, a code or a value before it
- * is given to a function: what is not accepted is refused by number, place and tag.
+ * Every input gets an answer. Nothing has to be true of a packet, a table of rows, a knowing set, a place, a tag, a code or a value
+ * before it is given to a function: what is not accepted is refused by number, place and tag.
  *
  * Memory
  *   - All memory lent stays the caller's. Nothing is allocated, and nothing is kept after a call, so that threads may call at the same
@@ -21,6 +22,7 @@
  *     length is 0.
  *   - What is lent as const is only read. Inputs may overlap each other; an output may not overlap any input.
  *   - On a refusal no memory lent changes, and none carries a part of the refusal: all of it is in the answer.
+ *   - On x86-64 oyk_list takes 5,256 bytes of stack, and any other call at most 1,480 bytes.
  *
  * Knowing set
  *   Which items of the catalogue a receiver knows, as two words: tag t from 0 to 63 is bit t of low, tag t from 64 to 127 is bit t - 64
@@ -30,7 +32,40 @@
  *     oyk_sensor_height(packet, length, OYK_KNOWS_ALL_LOW, OYK_KNOWS_ALL_HIGH & ~(UINT64_C(1) << (75 - 64)))
  *
  * House units
- *   Values are whole numbers of 10^-7 degree, mm, mm/s, 0.001 mbar, 0.001 percent or 0.001 degree C.
+ *   Values are whole numbers of 10^-7 degree, mm, mm/s, 0.001 mbar, 0.001 percent or 0.001 degree C. The items that have a scale, each
+ *   with how it is stored, its bytes and its range; oyk_item answers the same, in house units:
+ *
+ *     5, 35, 64, 71                       unsigned  2  0 to 360 degrees
+ *     6                                   signed    2  -20 to 20 degrees
+ *     7                                   signed    2  -50 to 50 degrees
+ *     8, 9, 56                            unsigned  1  0 to 255 m/s
+ *     13, 23, 67, 82, 84, 86, 88, 90, 91  signed    4  -90 to 90 degrees
+ *     14, 19, 24, 68, 83, 85, 87, 89      signed    4  -180 to 180 degrees
+ *     15, 25, 38, 75, 78                  unsigned  2  -900 to 19000 m
+ *     16, 17                              unsigned  2  0 to 180 degrees
+ *     18, 20                              unsigned  4  0 to 360 degrees
+ *     21, 57                              unsigned  4  0 to 5000000 m
+ *     22                                  unsigned  2  0 to 10000 m
+ *     26, 27, 28, 29, 30, 31, 32, 33      signed    2  -0.075 to 0.075 degrees
+ *     36                                  unsigned  1  0 to 100 m/s
+ *     37                                  unsigned  2  0 to 5000 mbar
+ *     39                                  signed    1  -128 to 127 degrees C
+ *     55                                  unsigned  1  0 to 100 percent
+ *     79, 80                              signed    2  -327 to 327 m/s
+ *
+ *   Of the signed ones the lowest code is a mark, but for 39. Without scale are 1, 2 (microseconds), 34 (codes 0 to 2), 63 (codes 0 to 8)
+ *   and 65, and the texts, 3, 4, 10, 11, 12, 59 and 70.
+ *
+ * Rows
+ *   A table has four words for each row: tag; kind; the stored code (0 for text and carried); OYK_PART(place, length) of the value in the
+ *   buffer, which is the packet if the rows were read from one. A row is bad, and is refused by 17, if
+ *   - its tag is not 1 to 2,097,151;
+ *   - its kind is not the one that this receiver gives the tag: carried for a tag that it does not know, text for a text, for a number the
+ *     mark where the code is the item's mark and else the reading;
+ *   - it is text or carried and has a code other than 0, or its place plus its length is beyond the buffer;
+ *   - it is a number with another length than the catalogue's, or a code that is too wide for it.
+ *   The place of a number is not looked at, nor is the code of item 1: the writer works the checksum out. What makes no row bad but a packet
+ *   wrong (a text of 0 or of over 127 bytes, a known tag twice, an order that starts or ends wrongly) is refused by its own number.
  */
 #ifndef OYSTERKNOLL_H
 #define OYSTERKNOLL_H
@@ -42,12 +77,18 @@
 extern "C" {
 #endif
 
+/* The version of what this header and an archive say to each other: an archive that goes with it answers this number to oyk_version. */
+#define OYK_VERSION 1
+
 /* The words of a table that oyk_read fills: four for each of at most 128 rows. */
 #define OYK_TABLE_WORDS 512
 /* The bytes of the longest packet: an output of so many is never too short for oyk_write and oyk_forward. */
 #define OYK_LONGEST_PACKET 8192
 /* No listing has more bytes: an output of so many is never too short for oyk_list. */
 #define OYK_LONGEST_LISTING 21781
+
+/* The fourth word of a row: where its value stands in the buffer, and how many bytes it has (under 65,536). */
+#define OYK_PART(place, length) ((uint64_t)(place) * 65536 + (uint64_t)(length))
 
 /* The knowing set with the whole catalogue, 64 items. */
 #define OYK_KNOWS_ALL_LOW UINT64_C(0x8b8000fffffffffe)
@@ -76,7 +117,7 @@ extern "C" {
 
 /* Of the writer, which also gives 1, 3, 9, 10 and 12 to 15: its place in 9, 10, 12 to 14 and 17 is the row number, from 0. */
 #define OYK_REFUSED_ROW_COUNT_TOO_LARGE 16 /* row count over 128 or four times it over the words lent */
-#define OYK_REFUSED_ROW_BAD 17             /* bad row; its number, and its tag if that is 1 to 2,097,151 */
+#define OYK_REFUSED_ROW_BAD 17             /* bad row (see Rows above); its number, and its tag if that is 1 to 2,097,151 */
 #define OYK_REFUSED_OUTPUT_TOO_SHORT 18    /* output too short */
 
 /* Of the conversions, each with the tag as given. */
@@ -90,6 +131,9 @@ extern "C" {
 #define OYK_TEXT 3    /* a text */
 #define OYK_CARRIED 4 /* an item that the receiver does not know */
 
+/* The kind that oyk_next gives where no item is left. */
+#define OYK_NO_MORE 0
+
 /* What a height or a corner is where the packet has none that the receiver knows. */
 #define OYK_MISSING 0
 
@@ -101,81 +145,268 @@ extern "C" {
 #define OYK_POINT 1
 #define OYK_OFF_THE_EARTH 2 /* the drone said that it looks above the horizon: there is no pin to draw */
 
+/* How the catalogue stores an item (oyk_item). */
+#define OYK_NOT_LISTED 0      /* the catalogue has no item of this tag: every receiver carries it */
+#define OYK_STORED_UNSIGNED 1 /* an unsigned number */
+#define OYK_STORED_SIGNED 2   /* a number in two's complement */
+#define OYK_STORED_TEXT 3     /* a text of 1 to 127 bytes, which may be any */
+
+/* Units (oyk_item): what a value in house units counts. A person's unit is 10^7 of them for degrees, and else 1,000. */
+#define OYK_UNIT_NONE 0             /* no unit: a text, or a number whose code is all there is */
+#define OYK_UNIT_DEGREE 1           /* 10^-7 degree */
+#define OYK_UNIT_METRE 2            /* mm */
+#define OYK_UNIT_METRE_PER_SECOND 3 /* mm/s */
+#define OYK_UNIT_MILLIBAR 4         /* 0.001 mbar */
+#define OYK_UNIT_PERCENT 5          /* 0.001 percent */
+#define OYK_UNIT_CELSIUS 6          /* 0.001 degree C */
+#define OYK_UNIT_MICROSECOND 7      /* item 2, which has no scale: its code counts microseconds */
+
 /*
- * An answer of any function. If refusal is not 0, then place and tag go with it and all other fields are 0. If it is 0, the
- * function says below which fields it gives, and all other fields are 0.
+ * The catalogue as a list: ITEM(tag, name, unit) for each item, in the order of the tags. The name is that of ST 0601, the unit what follows
+ * OYK_UNIT_. A switch that gives the name of a tag, for example:
+ *
+ *     #define NAME_OF(tag, name, unit) case tag: return name;
+ *     switch (tag) { OYK_ITEMS(NAME_OF) }
  */
-typedef struct oyk_answer {
-    uint64_t refusal; /* one of OYK_REFUSED_..., 0: nothing is refused */
-    uint64_t place;   /* of a refusal; of the value of a text or carried row in the buffer (oyk_row) */
-    uint64_t tag;     /* of a refusal; of a row (oyk_row) */
-    uint64_t kind;    /* which case */
-    uint64_t count;   /* how many, or a code */
-    int64_t value;    /* a value in house units; a corner's latitude */
-    int64_t second;   /* a corner's longitude */
-} oyk_answer;
+#define OYK_ITEMS(ITEM)                                      \
+    ITEM(1, "Checksum", NONE)                                \
+    ITEM(2, "Precision Time Stamp", MICROSECOND)             \
+    ITEM(3, "Mission ID", NONE)                              \
+    ITEM(4, "Platform Tail Number", NONE)                    \
+    ITEM(5, "Platform Heading Angle", DEGREE)                \
+    ITEM(6, "Platform Pitch Angle", DEGREE)                  \
+    ITEM(7, "Platform Roll Angle", DEGREE)                   \
+    ITEM(8, "Platform True Airspeed", METRE_PER_SECOND)      \
+    ITEM(9, "Platform Indicated Airspeed", METRE_PER_SECOND) \
+    ITEM(10, "Platform Designation", NONE)                   \
+    ITEM(11, "Image Source Sensor", NONE)                    \
+    ITEM(12, "Image Coordinate System", NONE)                \
+    ITEM(13, "Sensor Latitude", DEGREE)                      \
+    ITEM(14, "Sensor Longitude", DEGREE)                     \
+    ITEM(15, "Sensor True Altitude", METRE)                  \
+    ITEM(16, "Sensor Horizontal Field of View", DEGREE)      \
+    ITEM(17, "Sensor Vertical Field of View", DEGREE)        \
+    ITEM(18, "Sensor Relative Azimuth Angle", DEGREE)        \
+    ITEM(19, "Sensor Relative Elevation Angle", DEGREE)      \
+    ITEM(20, "Sensor Relative Roll Angle", DEGREE)           \
+    ITEM(21, "Slant Range", METRE)                           \
+    ITEM(22, "Target Width", METRE)                          \
+    ITEM(23, "Frame Center Latitude", DEGREE)                \
+    ITEM(24, "Frame Center Longitude", DEGREE)               \
+    ITEM(25, "Frame Center Elevation", METRE)                \
+    ITEM(26, "Offset Corner Latitude Point 1", DEGREE)       \
+    ITEM(27, "Offset Corner Longitude Point 1", DEGREE)      \
+    ITEM(28, "Offset Corner Latitude Point 2", DEGREE)       \
+    ITEM(29, "Offset Corner Longitude Point 2", DEGREE)      \
+    ITEM(30, "Offset Corner Latitude Point 3", DEGREE)       \
+    ITEM(31, "Offset Corner Longitude Point 3", DEGREE)      \
+    ITEM(32, "Offset Corner Latitude Point 4", DEGREE)       \
+    ITEM(33, "Offset Corner Longitude Point 4", DEGREE)      \
+    ITEM(34, "Icing Detected", NONE)                         \
+    ITEM(35, "Wind Direction", DEGREE)                       \
+    ITEM(36, "Wind Speed", METRE_PER_SECOND)                 \
+    ITEM(37, "Static Pressure", MILLIBAR)                    \
+    ITEM(38, "Density Altitude", METRE)                      \
+    ITEM(39, "Outside Air Temperature", CELSIUS)             \
+    ITEM(55, "Relative Humidity", PERCENT)                   \
+    ITEM(56, "Platform Ground Speed", METRE_PER_SECOND)      \
+    ITEM(57, "Ground Range", METRE)                          \
+    ITEM(59, "Platform Call Sign", NONE)                     \
+    ITEM(63, "Sensor Field of View Name", NONE)              \
+    ITEM(64, "Platform Magnetic Heading", DEGREE)            \
+    ITEM(65, "UAS Datalink LS Version Number", NONE)         \
+    ITEM(67, "Alternate Platform Latitude", DEGREE)          \
+    ITEM(68, "Alternate Platform Longitude", DEGREE)         \
+    ITEM(70, "Alternate Platform Name", NONE)                \
+    ITEM(71, "Alternate Platform Heading", DEGREE)           \
+    ITEM(75, "Sensor Ellipsoid Height", METRE)               \
+    ITEM(78, "Frame Center Height Above Ellipsoid", METRE)   \
+    ITEM(79, "Sensor North Velocity", METRE_PER_SECOND)      \
+    ITEM(80, "Sensor East Velocity", METRE_PER_SECOND)       \
+    ITEM(82, "Corner Latitude Point 1 (Full)", DEGREE)       \
+    ITEM(83, "Corner Longitude Point 1 (Full)", DEGREE)      \
+    ITEM(84, "Corner Latitude Point 2 (Full)", DEGREE)       \
+    ITEM(85, "Corner Longitude Point 2 (Full)", DEGREE)      \
+    ITEM(86, "Corner Latitude Point 3 (Full)", DEGREE)       \
+    ITEM(87, "Corner Longitude Point 3 (Full)", DEGREE)      \
+    ITEM(88, "Corner Latitude Point 4 (Full)", DEGREE)       \
+    ITEM(89, "Corner Longitude Point 4 (Full)", DEGREE)      \
+    ITEM(90, "Platform Pitch Angle (Full)", DEGREE)          \
+    ITEM(91, "Platform Roll Angle (Full)", DEGREE)
+
+/* A refusal. If number is 0, nothing is refused, and place and tag are 0. */
+typedef struct oyk_refusal {
+    uint64_t number; /* one of OYK_REFUSED_..., or 0 */
+    size_t place;    /* where: beside each number above */
+    uint64_t tag;    /* of which item: beside each number above */
+} oyk_refusal;
+
+/* A row: an item as the receiver sees it. */
+typedef struct oyk_row {
+    uint64_t tag;
+    uint64_t kind; /* OYK_READING, OYK_MARK, OYK_TEXT or OYK_CARRIED */
+    uint64_t code; /* the stored code of a reading or a mark; 0 for text and carried */
+    size_t place;  /* where the value's bytes stand in the packet or the buffer */
+    size_t length; /* how many they are */
+} oyk_row;
+
+/*
+ * Answers. The refusal comes first in each that can be one; if its number is not 0, all that follows it is 0.
+ */
+
+/* How many items or rows there are (oyk_check, oyk_read). */
+typedef struct oyk_count_answer {
+    oyk_refusal refusal;
+    size_t count;
+} oyk_count_answer;
+
+/* How many bytes were written at the front of the output (oyk_write, oyk_forward, oyk_list). */
+typedef struct oyk_size_answer {
+    oyk_refusal refusal;
+    size_t size;
+} oyk_size_answer;
+
+/* A row of a table (oyk_take_row). */
+typedef struct oyk_row_answer {
+    oyk_refusal refusal;
+    oyk_row row;
+} oyk_row_answer;
+
+/* Where the items of a packet begin (oyk_start). */
+typedef struct oyk_start_answer {
+    oyk_refusal refusal;
+    size_t place;
+} oyk_start_answer;
+
+/* An item of a packet and the place after it (oyk_next). Nothing is refused: where there is no item, the row's kind is OYK_NO_MORE. */
+typedef struct oyk_next_answer {
+    oyk_row row;
+    size_t next;
+} oyk_next_answer;
+
+/* A value in house units (oyk_to_house). */
+typedef struct oyk_value_answer {
+    oyk_refusal refusal;
+    int64_t value;
+} oyk_value_answer;
+
+/* A stored code (oyk_to_code). */
+typedef struct oyk_code_answer {
+    oyk_refusal refusal;
+    uint64_t code;
+} oyk_code_answer;
+
+/* A height, with the kind that it was (oyk_sensor_height, oyk_frame_centre_height). */
+typedef struct oyk_height_answer {
+    oyk_refusal refusal;
+    uint64_t kind;  /* OYK_MISSING, OYK_OVER_ELLIPSOID or OYK_OVER_SEA_LEVEL */
+    int64_t height; /* in mm; 0 where it is missing */
+} oyk_height_answer;
+
+/* A corner of the picture on the ground (oyk_corner). */
+typedef struct oyk_corner_answer {
+    oyk_refusal refusal;
+    uint64_t kind;     /* OYK_MISSING, OYK_POINT or OYK_OFF_THE_EARTH */
+    int64_t latitude;  /* in 10^-7 degree, north of the equator; 0 where it is no point */
+    int64_t longitude; /* in 10^-7 degree, east of Greenwich; 0 where it is no point */
+} oyk_corner_answer;
+
+/* What the catalogue has for a tag (oyk_item). Nothing is refused: for a tag that it does not have, all is 0. */
+typedef struct oyk_item_answer {
+    uint64_t stored; /* OYK_NOT_LISTED, OYK_STORED_UNSIGNED, OYK_STORED_SIGNED or OYK_STORED_TEXT */
+    size_t width;    /* the bytes of a number; 0 for a text */
+    int64_t low;     /* the least value, in house units */
+    int64_t high;    /* the greatest; equal to low where there is no scale */
+    uint64_t unit;   /* one of OYK_UNIT_... */
+    uint64_t marked; /* 1 where the lowest code (only the top bit set) is a mark and no number, else 0 */
+} oyk_item_answer;
+
+/* The version that the archive was made for: OYK_VERSION, if it goes with this header. */
+uint64_t oyk_version(void);
 
 /* Judges a packet. count: the number of its items. Never refusal 2. */
-oyk_answer oyk_check(const uint8_t *packet, size_t packet_len, uint64_t low, uint64_t high);
+oyk_count_answer oyk_check(const uint8_t *packet, size_t packet_len, uint64_t low, uint64_t high);
 
 /*
- * Reads a packet into a table of at least 512 words. count: the number of rows.
- * A row is four words: tag; kind; the stored code (0 for text and carried); the place of the value in the packet times 65,536 plus its
- * length. The rest of the first 512 words is set to 0, and words beyond stay.
+ * Reads a packet into a table of at least 512 words. count: the number of rows. The table is filled row after row (see Rows above), and
+ * the rest of its first 512 words is set to 0; words beyond stay.
  */
-oyk_answer oyk_read(const uint8_t *packet, size_t packet_len, uint64_t low, uint64_t high, uint64_t *table, size_t table_len);
+oyk_count_answer oyk_read(const uint8_t *packet, size_t packet_len, uint64_t low, uint64_t high, uint64_t *table, size_t table_len);
 
 /*
  * Takes row n, from 0, out of the count rows in words. The buffer is what text and carried rows point into: the packet, if the rows
- * were read from one. tag: the row's. kind: OYK_READING, OYK_MARK, OYK_TEXT or OYK_CARRIED. count: the code of a reading, or the length
- * of a text or carried value, which stands at place in the buffer. A row number from count on is refused by 17 with tag 0.
+ * were read from one. A bad row is refused by 17, and so is a row number from count on, with tag 0.
  */
-oyk_answer oyk_row(const uint64_t *words, size_t words_len, size_t count, size_t n, const uint8_t *buffer, size_t buffer_len,
-                   uint64_t low, uint64_t high);
+oyk_row_answer oyk_take_row(const uint64_t *words, size_t words_len, size_t count, size_t n, const uint8_t *buffer, size_t buffer_len,
+                            uint64_t low, uint64_t high);
 
 /*
- * Writes the count rows in words as a packet at the front of the output. count: the number of bytes written.
+ * Starts a walk over the items of a packet, which needs no table: judges it as oyk_check does. place: where the first item starts.
+ */
+oyk_start_answer oyk_start(const uint8_t *packet, size_t packet_len, uint64_t low, uint64_t high);
+
+/*
+ * The item that starts at a place, and the place after it. From the place that oyk_start answers, and then from each next, the items of an
+ * accepted packet come in their order, each as the row that oyk_read has for it, until the kind is OYK_NO_MORE:
+ *
+ *     oyk_next_answer at;
+ *     for (at = oyk_next(packet, length, low, high, start.place); at.row.kind != OYK_NO_MORE;
+ *          at = oyk_next(packet, length, low, high, at.next))
+ *
+ * Where no item starts at the place, next is the place and all else is 0. Any bytes and any place get an answer; what an item of a packet
+ * that was not accepted holds need not be what its tag asks, and of a number of over eight bytes the last eight count.
+ */
+oyk_next_answer oyk_next(const uint8_t *packet, size_t packet_len, uint64_t low, uint64_t high, size_t place);
+
+/*
+ * Writes the count rows in words as a packet at the front of the output. size: the number of bytes written.
  * The order of the rows is kept, lengths take their shortest form, and the checksum is worked out afresh. Bytes after the packet stay.
+ * The first row is item 2 and the last item 1, and item 65 is among them. Which row is bad stands at Rows above.
  */
-oyk_answer oyk_write(const uint64_t *words, size_t words_len, size_t count, const uint8_t *buffer, size_t buffer_len, uint64_t low,
-                     uint64_t high, uint8_t *out, size_t out_len);
+oyk_size_answer oyk_write(const uint64_t *words, size_t words_len, size_t count, const uint8_t *buffer, size_t buffer_len, uint64_t low,
+                          uint64_t high, uint8_t *out, size_t out_len);
 
 /*
- * Sends a packet on: reads it, and writes all its rows at the front of the output. count: the number of bytes written.
+ * Sends a packet on: reads it, and writes all its rows at the front of the output. size: the number of bytes written.
  * What the receiver does not know is handed on unharmed. Bytes after the packet stay. Never refusal 2.
  */
-oyk_answer oyk_forward(const uint8_t *packet, size_t packet_len, uint64_t low, uint64_t high, uint8_t *out, size_t out_len);
+oyk_size_answer oyk_forward(const uint8_t *packet, size_t packet_len, uint64_t low, uint64_t high, uint8_t *out, size_t out_len);
 
-/* Turns a stored code into house units. value: the nearest whole number. */
-oyk_answer oyk_to_house(uint64_t tag, uint64_t code);
-
-/* Turns a value in house units into a code. count: the nearest code. */
-oyk_answer oyk_to_code(uint64_t tag, int64_t value);
+/* Turns a stored code into house units. value: the nearest whole number; a tie never occurs. */
+oyk_value_answer oyk_to_house(uint64_t tag, uint64_t code);
 
 /*
- * How high the sensor is: by item 75, over the ellipsoid, if the packet has it, else by item 15, over mean sea level.
- * kind: OYK_MISSING, OYK_OVER_ELLIPSOID or OYK_OVER_SEA_LEVEL. value: in mm. Never refusal 2.
+ * Turns a value in house units into a code. code: the nearest; a value half way between two codes gets the one further from the low end
+ * of an unsigned item, and the one further from zero of a signed item.
  */
-oyk_answer oyk_sensor_height(const uint8_t *packet, size_t packet_len, uint64_t low, uint64_t high);
+oyk_code_answer oyk_to_code(uint64_t tag, int64_t value);
+
+/*
+ * How high the sensor is: by item 75, over the ellipsoid, if the packet has it, else by item 15, over mean sea level. Never refusal 2.
+ */
+oyk_height_answer oyk_sensor_height(const uint8_t *packet, size_t packet_len, uint64_t low, uint64_t high);
 
 /* How high the frame centre is: by item 78, over the ellipsoid, if the packet has it, else by item 25. As oyk_sensor_height. */
-oyk_answer oyk_frame_centre_height(const uint8_t *packet, size_t packet_len, uint64_t low, uint64_t high);
+oyk_height_answer oyk_frame_centre_height(const uint8_t *packet, size_t packet_len, uint64_t low, uint64_t high);
 
 /*
- * Where corner k of the picture is on the ground, k from 1 to 4; any other k is missing.
+ * Where corner k of the picture is on the ground: 1 is the upper left one, 2 the upper right, 3 the lower right, 4 the lower left; any other
+ * k is missing.
  * By items 80 + 2k and 81 + 2k if both are there, else by the frame centre (23 and 24) plus the offsets 24 + 2k and 25 + 2k if all four
- * are there. A mark in any row used is off the Earth.
- * kind: OYK_MISSING, OYK_POINT or OYK_OFF_THE_EARTH. value: latitude, second: longitude, in 10^-7 degree. Never refusal 2.
+ * are there. A mark in any row used is off the Earth. Never refusal 2.
  */
-oyk_answer oyk_corner(const uint8_t *packet, size_t packet_len, uint64_t low, uint64_t high, uint64_t k);
+oyk_corner_answer oyk_corner(const uint8_t *packet, size_t packet_len, uint64_t low, uint64_t high, uint64_t k);
+
+/* What the catalogue has for a tag: how the item is stored, its range and unit, and whether it has a mark. */
+oyk_item_answer oyk_item(uint64_t tag);
 
 /*
- * Lists a packet as text at the front of the output, the whole catalogue being known. count: the number of bytes.
+ * Lists a packet as text at the front of the output, the whole catalogue being known. size: the number of bytes.
  * A head line, then a line an item: the value's place, tag, kind and value, parted by tabs. Every line ends with a newline byte; no
  * zero byte follows the last. A packet that is not accepted is refused, and no line is written; an output shorter than the listing is
  * refused by 18.
  */
-oyk_answer oyk_list(const uint8_t *packet, size_t packet_len, uint8_t *out, size_t out_len);
+oyk_size_answer oyk_list(const uint8_t *packet, size_t packet_len, uint8_t *out, size_t out_len);
 
 #ifdef __cplusplus
 }

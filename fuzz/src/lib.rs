@@ -14,10 +14,14 @@ pub mod catalogue;
 pub mod compare;
 #[path = "../../rust/tests/differential/lent.rs"]
 pub mod lent;
+#[path = "../../rust/tests/differential/same.rs"]
+pub mod same;
 #[path = "../../rust/tests/differential/twin.rs"]
 pub mod twin;
 #[path = "../../rust/tests/differential/twin_answers.rs"]
 pub mod twin_answers;
+#[path = "../../rust/tests/differential/twin_records.rs"]
+pub mod twin_records;
 #[path = "../../rust/tests/differential/twin_write.rs"]
 pub mod twin_write;
 #[path = "../../rust/tests/differential/wire.rs"]
@@ -53,9 +57,9 @@ fn twin() -> Twin {
     let Ok(name) = std::env::var("OYSTERKNOLL_ALTERED") else {
         return Twin::TRUE;
     };
-    let named = |altered: &twin::Altered| format!("{altered:?}") == name;
-    let altered = ALTERATIONS.into_iter().find(named);
-    Twin::altered(altered.expect("OYSTERKNOLL_ALTERED names no alteration"))
+    let named = |altered: &&twin::Altered| format!("{altered:?}") == name;
+    let altered = ALTERATIONS.iter().find(named);
+    Twin::altered(*altered.expect("OYSTERKNOLL_ALTERED names no alteration"))
 }
 
 struct Target {
@@ -87,7 +91,7 @@ impl Target {
         }
     }
 
-    /// The rest is tags, each with a word.
+    /// The rest is tags, each with a word. What the catalogue has for the tag is asked first.
     fn ask_conversions(&mut self, to_house: bool, mut input: Input) -> Verdict {
         let comparer = &mut self.comparer;
         for _ in 0..MOST_CONVERSIONS {
@@ -95,6 +99,7 @@ impl Target {
                 break;
             }
             let (tag, word) = (input.number(), input.word());
+            comparer.item(tag)?;
             if to_house {
                 conversion::codes(tag, word)
                     .into_iter()
@@ -122,7 +127,9 @@ impl Target {
         let roomy = |needed| near(needed, room);
         match function {
             4 => comparer.check(packet, set),
-            5 => comparer.read(packet, set, roomy(512).min(MOST_TABLE)),
+            5 => comparer
+                .read(packet, set, roomy(512).min(MOST_TABLE))
+                .and_then(|()| comparer.items(packet, set)),
             6 => comparer.forward(packet, set, roomy),
             7 => comparer.heights(packet, set),
             8 => (1..5)
@@ -133,7 +140,8 @@ impl Target {
         stays(packet == made)
     }
 
-    /// A row taken out, or all of them written. The count comes first: 0 for as many as there are words for, else one more than it is.
+    /// A row taken out, or all of them written, as words and as records. The count comes first: 0 for as many as there are words for, else
+    /// one more than it is.
     fn ask_of_rows(
         &mut self,
         single: bool,
@@ -152,10 +160,13 @@ impl Target {
             buffer,
             set,
         };
+        let (comparer, roomy) = (&mut self.comparer, |needed| near(needed, room));
         if single {
-            self.comparer.take_row(lent, n)
+            comparer.take_row(lent, n)
         } else {
-            self.comparer.write(lent, |needed| near(needed, room))
+            comparer
+                .write(lent, roomy)
+                .and_then(|()| comparer.write_rows(&table::records(words, buffer), set, roomy))
         }?;
         stays(words == words_made && buffer == buffer_made)
     }

@@ -1,8 +1,9 @@
-//! The words and the buffer that an input lends to the writer.
+//! The words and the buffer that an input lends to the writer, and the records that they are.
 
 use crate::input::Input;
 use crate::packet::packet;
-use crate::twin::Twin;
+use crate::twin::{Row, Twin, CARRIED, MARK, READING, TEXT};
+use crate::twin_records::Record;
 
 /// More than the rows of a table can have.
 const MOST_WORDS: u64 = 640;
@@ -33,4 +34,23 @@ fn words_of_packet(mut input: Input, changes: u8, set: u128) -> (Vec<u64>, Vec<u
         }
     }
     (words, packet)
+}
+
+/// A record for every row in the words. What no record can be is the next best: a kind is taken modulo 4, and a part beyond the buffer is
+/// empty.
+pub fn records<'a>(words: &[u64], buffer: &'a [u8]) -> Vec<Record<'a>> {
+    let rows = words.chunks_exact(4).map(Row::from_words);
+    rows.map(|row| record(&row, buffer)).collect()
+}
+
+fn record<'a>(row: &Row, buffer: &'a [u8]) -> Record<'a> {
+    let part = buffer
+        .get(row.place..)
+        .and_then(|rest| rest.get(..row.length));
+    Record {
+        tag: row.tag,
+        kind: [CARRIED, READING, MARK, TEXT][(row.kind % 4) as usize],
+        code: row.code,
+        value: part.unwrap_or_default(),
+    }
 }

@@ -84,7 +84,7 @@ fn corner(packet: &[u8], knowing: Knowing, k: u64) -> Result<ground::Corner, riv
     Ok(match corner {
         Corner::At(point) => ground::Corner::At(point.latitude, point.longitude),
         Corner::OffTheEarth => ground::Corner::OffTheEarth,
-        _ => ground::Corner::Missing,
+        Corner::Missing => ground::Corner::Missing,
     })
 }
 

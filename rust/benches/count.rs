@@ -62,6 +62,9 @@ fn library(operation: &str, packet: &[u8], times: usize) -> bool {
                 oysterknoll::write(black_box(&table), count, packet(), all, &mut out)
             })
         }
+        "walk" => repeat(times, || {
+            oysterknoll::items(packet(), all).map_or(0, Iterator::count)
+        }),
         "list" => {
             let mut listing = [0; LONGEST_LISTING];
             repeat(times, || oysterknoll::list(packet(), &mut listing))

@@ -41,8 +41,11 @@ static CATALOGUE: [Rule; 128] = catalogue();
 static PLAIN_LENGTHS: [(u8, u8); 256] = plain_lengths();
 const CATALOGUE_TAGS: [u64; 2] = catalogue_tags();
 
-/// The catalogue's tags by what is said of them, in the order of a rule's fields.
-const GROUPS: [((u8, u8, u8, u8), &[usize]); 10] = [
+/// What is said of some tags, in the order of a rule's fields, and the tags.
+type Group = ((u8, u8, u8, u8), &'static [usize]);
+
+/// The catalogue's tags by what is said of them.
+const GROUPS: [Group; 10] = [
     ((1, 0, 255, NUMBER), &[8, 9, 36, 39, 55, 56, 65]),
     ((1, 0, 2, NUMBER), &[34]),
     ((1, 0, 8, NUMBER), &[63]),

@@ -54,7 +54,7 @@ fn words(corner: Corner) -> String {
             longitude,
         }) => format!("{}, {}", degrees(latitude), degrees(longitude)),
         Corner::OffTheEarth => "off the Earth".to_string(),
-        _ => "missing".to_string(),
+        Corner::Missing => "missing".to_string(),
     }
 }
 

@@ -2,10 +2,29 @@ use crate::raw;
 use crate::{Knowing, Refusal};
 
 /// A height over the ellipsoid, in millimetres.
+///
+/// ```
+/// use oysterknoll::EllipsoidHeight;
+///
+/// let EllipsoidHeight(mm) = EllipsoidHeight(689_935);
+/// assert_eq!(mm, 689_935);
+/// ```
 #[derive(Clone, Copy, Debug, PartialEq, Eq, PartialOrd, Ord, Hash)]
 pub struct EllipsoidHeight(pub i64);
 
-/// A height over mean sea level, in millimetres.
+/// A height over mean sea level, in millimetres. It is no [`EllipsoidHeight`], and the compiler says so:
+///
+/// ```compile_fail
+/// use oysterknoll::{EllipsoidHeight, SeaLevelHeight};
+///
+/// let lower = SeaLevelHeight(641_958) < EllipsoidHeight(689_935);
+/// ```
+///
+/// ```
+/// use oysterknoll::SeaLevelHeight;
+///
+/// assert!(SeaLevelHeight(601_572) < SeaLevelHeight(641_958));
+/// ```
 #[derive(Clone, Copy, Debug, PartialEq, Eq, PartialOrd, Ord, Hash)]
 pub struct SeaLevelHeight(pub i64);
 
@@ -18,13 +37,12 @@ pub struct SeaLevelHeight(pub i64);
 /// let said = match sensor_height(packet, Knowing::ALL)? {
 ///     Height::OverEllipsoid(EllipsoidHeight(mm)) => format!("{mm} mm over the ellipsoid"),
 ///     Height::OverSeaLevel(SeaLevelHeight(mm)) => format!("{mm} mm over mean sea level"),
-///     _ => "missing".to_string(),
+///     Height::Missing => "missing".to_string(),
 /// };
 /// assert_eq!(said, "689935 mm over the ellipsoid");
 /// # Ok::<(), oysterknoll::Refusal>(())
 /// ```
 #[derive(Clone, Copy, Debug, PartialEq, Eq, Hash)]
-#[non_exhaustive]
 pub enum Height {
     /// Over the ellipsoid.
     OverEllipsoid(EllipsoidHeight),
@@ -35,6 +53,16 @@ pub enum Height {
 }
 
 /// A point on the ground, in ten-millionths of a degree.
+///
+/// ```
+/// use oysterknoll::catalogue::{Unit, Value};
+/// use oysterknoll::Point;
+///
+/// let point = Point { latitude: 469_001_577, longitude: 83_008_305 };
+/// let degrees = |value| Value { value, unit: Some(Unit::Degree) }.to_string();
+/// assert_eq!(degrees(point.latitude), "46.9001577°");
+/// assert_eq!(degrees(point.longitude), "8.3008305°");
+/// ```
 #[derive(Clone, Copy, Debug, PartialEq, Eq, Hash)]
 pub struct Point {
     /// North of the equator, negative to the south.
@@ -43,22 +71,22 @@ pub struct Point {
     pub longitude: i64,
 }
 
-/// A corner of the picture on the ground.
+/// A corner of the picture on the ground. A match without `_` has to say what is done with one that is off the Earth.
 ///
 /// ```
 /// use oysterknoll::{corner, Corner, Knowing};
 ///
 /// // Corner 2 of the tower looks above the horizon, whatever its offsets say.
 /// let packet = include_bytes!("../../samples/tower.klv");
-/// let pin = match corner(packet, Knowing::ALL, 2)? {
-///     Corner::At(point) => Some(point),
-///     _ => None,
+/// let (pin, why) = match corner(packet, Knowing::ALL, 2)? {
+///     Corner::At(point) => (Some(point), "seen"),
+///     Corner::OffTheEarth => (None, "above the horizon"),
+///     Corner::Missing => (None, "not said"),
 /// };
-/// assert_eq!(pin, None);
+/// assert_eq!((pin, why), (None, "above the horizon"));
 /// # Ok::<(), oysterknoll::Refusal>(())
 /// ```
 #[derive(Clone, Copy, Debug, PartialEq, Eq, Hash)]
-#[non_exhaustive]
 pub enum Corner {
     /// At this point.
     At(Point),
@@ -89,9 +117,7 @@ pub enum Corner {
 /// # Ok::<(), oysterknoll::Refusal>(())
 /// ```
 pub fn sensor_height(packet: &[u8], knowing: Knowing) -> Result<Height, Refusal> {
-    raw::sensor_height(packet, knowing)
-        .accepted()
-        .map(height_of)
+    height_of(raw::sensor_height(packet, knowing))
 }
 
 /// How high the frame centre is: by item 78, over the ellipsoid, if the packet has it, else by item 25, over mean sea level.
@@ -114,9 +140,7 @@ pub fn sensor_height(packet: &[u8], knowing: Knowing) -> Result<Height, Refusal>
 /// # Ok::<(), oysterknoll::Refusal>(())
 /// ```
 pub fn frame_centre_height(packet: &[u8], knowing: Knowing) -> Result<Height, Refusal> {
-    raw::frame_centre_height(packet, knowing)
-        .accepted()
-        .map(height_of)
+    height_of(raw::frame_centre_height(packet, knowing))
 }
 
 /// Where corner k of the picture is, k from 1 to 4 (upper left, upper right, lower right, lower left). Any other k is missing.
@@ -143,26 +167,25 @@ pub fn frame_centre_height(packet: &[u8], knowing: Knowing) -> Result<Height, Re
 /// # Ok::<(), oysterknoll::Refusal>(())
 /// ```
 pub fn corner(packet: &[u8], knowing: Knowing, k: u64) -> Result<Corner, Refusal> {
-    raw::corner(packet, knowing, k).accepted().map(corner_of)
-}
-
-/// The height that an answer is: kind 0 is missing, and a kind that the library does not have would be missing too.
-fn height_of(answer: raw::Answer) -> Height {
-    match answer.kind {
-        raw::OVER_ELLIPSOID => Height::OverEllipsoid(EllipsoidHeight(answer.value)),
-        raw::OVER_SEA_LEVEL => Height::OverSeaLevel(SeaLevelHeight(answer.value)),
-        _ => Height::Missing,
-    }
-}
-
-/// The corner that an answer is: kind 0 is missing, and a kind that the library does not have would be missing too.
-fn corner_of(answer: raw::Answer) -> Corner {
-    match answer.kind {
+    let answer = raw::corner(packet, knowing, k);
+    // Kind 0 is missing, and a kind that the library does not have would be missing too; so of a height.
+    let corner = match answer.kind {
         raw::POINT => Corner::At(Point {
-            latitude: answer.value,
-            longitude: answer.second,
+            latitude: answer.latitude,
+            longitude: answer.longitude,
         }),
         raw::OFF_THE_EARTH => Corner::OffTheEarth,
         _ => Corner::Missing,
-    }
+    };
+    answer.refusal.or(corner)
+}
+
+/// The height of an answer, with its kind.
+fn height_of(answer: raw::HeightAnswer) -> Result<Height, Refusal> {
+    let height = match answer.kind {
+        raw::OVER_ELLIPSOID => Height::OverEllipsoid(EllipsoidHeight(answer.height)),
+        raw::OVER_SEA_LEVEL => Height::OverSeaLevel(SeaLevelHeight(answer.height)),
+        _ => Height::Missing,
+    };
+    answer.refusal.or(height)
 }

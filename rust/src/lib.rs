@@ -16,7 +16,7 @@
 //!         assert_eq!((latitude, longitude), (469_001_577, 83_008_305)); // in ten-millionths of a degree
 //!     }
 //!     Ok(Corner::OffTheEarth) => println!("the corner looks above the horizon"),
-//!     Ok(_) => println!("the packet has no such corner"),
+//!     Ok(Corner::Missing) => println!("the packet has no such corner"),
 //!     Err(refusal) => println!("{refusal}"),
 //! }
 //! ```
@@ -29,7 +29,8 @@
 //!
 //! # House units
 //!
-//! Values are whole numbers of 10^-7 degree, mm, mm/s, 0.001 mbar, 0.001 percent or 0.001 degree C.
+//! Values are whole numbers of 10^-7 degree, mm, mm/s, 0.001 mbar, 0.001 percent or 0.001 degree C. [`catalogue`] has the unit and the
+//! range of each item, and shows a value in degrees, metres and so on.
 
 #![no_std]
 #![deny(missing_docs)]
@@ -39,33 +40,77 @@
 #![deny(clippy::indexing_slicing)]
 #![deny(clippy::expect_used, clippy::panic, clippy::unwrap_used)]
 
+pub mod catalogue;
 mod ground;
+mod items;
 mod knowing;
 mod raw;
 mod refusal;
 mod rows;
+mod writing;
 
 pub use ground::{
     corner, frame_centre_height, sensor_height, Corner, EllipsoidHeight, Height, Point,
     SeaLevelHeight,
 };
+pub use items::{items, Items};
 pub use knowing::Knowing;
 pub use refusal::{Reason, Refusal};
-pub use rows::{read, take_row, write, Content, Row, Rows, RowsIter};
+pub use rows::{read, take_row, Content, Row, Rows, RowsIter};
+pub use writing::{write, write_rows};
 
 /// The examples of the README are run too.
 #[cfg(doctest)]
 #[doc = include_str!("../README.md")]
 struct Readme;
 
+/// The version of what this crate and an archive say to each other: an archive that goes with the crate answers it to [`version`].
+///
+/// ```
+/// assert_eq!(oysterknoll::VERSION, 1);
+/// ```
+pub const VERSION: u64 = 1;
+
 /// The words of a table that [`read`] fills: four for each of at most 128 rows.
+///
+/// ```
+/// use oysterknoll::{read, Knowing, Reason, TABLE_WORDS};
+///
+/// let packet = include_bytes!("../../samples/smallest.klv");
+/// assert!(read(packet, Knowing::ALL, &mut [0; TABLE_WORDS]).is_ok());
+/// let refusal = read(packet, Knowing::ALL, &mut [0; TABLE_WORDS - 1]).unwrap_err();
+/// assert_eq!(refusal.reason, Reason::TableTooShort);
+/// ```
 pub const TABLE_WORDS: usize = 512;
 
-/// The bytes of the longest packet; an output of so many is never too short for [`write()`] and [`forward`].
+/// The bytes of the longest packet; an output of so many is never too short for [`write()`], [`write_rows`] and [`forward`].
+///
+/// ```
+/// use oysterknoll::{check, Knowing, Reason, LONGEST_PACKET};
+///
+/// let refusal = check(&[0; LONGEST_PACKET + 1], Knowing::ALL).unwrap_err();
+/// assert_eq!(refusal.reason, Reason::PacketTooLong);
+/// ```
 pub const LONGEST_PACKET: usize = 8192;
 
 /// No listing has more bytes; an output of so many is never too short for [`list`].
+///
+/// ```
+/// use oysterknoll::{list, LONGEST_LISTING};
+///
+/// let packet = include_bytes!("../../samples/tower.klv");
+/// assert!(list(packet, &mut [0; LONGEST_LISTING]).is_ok());
+/// ```
 pub const LONGEST_LISTING: usize = 21781;
+
+/// The version that the linked archive was made for. It goes with this crate where that is [`VERSION`].
+///
+/// ```
+/// assert_eq!(oysterknoll::version(), oysterknoll::VERSION);
+/// ```
+pub fn version() -> u64 {
+    raw::version()
+}
 
 /// Judges a packet, and answers how many items it has.
 ///
@@ -88,7 +133,8 @@ pub const LONGEST_LISTING: usize = 21781;
 /// assert_eq!(check(&packet, Knowing::ALL), Ok(3));
 /// ```
 pub fn check(packet: &[u8], knowing: Knowing) -> Result<usize, Refusal> {
-    Ok(raw::check(packet, knowing).accepted()?.size())
+    let answer = raw::check(packet, knowing);
+    answer.refusal.or(answer.count)
 }
 
 /// Sends a packet on: reads it, and writes all its rows at the front of `out`. Answers the number of bytes written.
@@ -112,7 +158,8 @@ pub fn check(packet: &[u8], knowing: Knowing) -> Result<usize, Refusal> {
 /// # Ok::<(), oysterknoll::Refusal>(())
 /// ```
 pub fn forward(packet: &[u8], knowing: Knowing, out: &mut [u8]) -> Result<usize, Refusal> {
-    Ok(raw::forward(packet, knowing, out).accepted()?.size())
+    let answer = raw::forward(packet, knowing, out);
+    answer.refusal.or(answer.size)
 }
 
 /// Turns a stored code into house units, to the nearest.
@@ -130,7 +177,8 @@ pub fn forward(packet: &[u8], knowing: Knowing, out: &mut [u8]) -> Result<usize,
 /// assert_eq!(to_house(26, 0x8000).unwrap_err().reason, Reason::NotANumber); // a mark
 /// ```
 pub fn to_house(tag: u64, code: u64) -> Result<i64, Refusal> {
-    Ok(raw::to_house(tag, code).accepted()?.value)
+    let answer = raw::to_house(tag, code);
+    answer.refusal.or(answer.value)
 }
 
 /// Turns a value in house units into the nearest code.
@@ -149,7 +197,8 @@ pub fn to_house(tag: u64, code: u64) -> Result<i64, Refusal> {
 /// assert_eq!(to_code(36, 100_001).unwrap_err().reason, Reason::ValueOutOfRange);
 /// ```
 pub fn to_code(tag: u64, value: i64) -> Result<u64, Refusal> {
-    Ok(raw::to_code(tag, value).accepted()?.count)
+    let answer = raw::to_code(tag, value);
+    answer.refusal.or(answer.code)
 }
 
 /// Lists a packet as text at the front of `out`, one line an item, and answers the number of bytes.
@@ -174,5 +223,6 @@ pub fn to_code(tag: u64, value: i64) -> Result<u64, Refusal> {
 /// # Ok::<(), oysterknoll::Refusal>(())
 /// ```
 pub fn list(packet: &[u8], out: &mut [u8]) -> Result<usize, Refusal> {
-    Ok(raw::list(packet, out).accepted()?.size())
+    let answer = raw::list(packet, out);
+    answer.refusal.or(answer.size)
 }

@@ -7,32 +7,89 @@
 
 use crate::Knowing;
 
-/// `oyk_answer` of the C header, field by field.
+// The structs of the C header, field by field.
+
 #[repr(C)]
-#[derive(Clone, Copy)]
-pub struct Answer {
-    pub refusal: u64,
-    pub place: u64,
+pub struct Refusal {
+    pub number: u64,
+    pub place: usize,
     pub tag: u64,
-    pub kind: u64,
-    pub count: u64,
-    pub value: i64,
-    pub second: i64,
 }
 
-// `build.rs` lets no other target through, so a word is a size.
-const _: () = assert!(usize::BITS == u64::BITS);
+#[repr(C)]
+pub struct Row {
+    pub tag: u64,
+    pub kind: u64,
+    pub code: u64,
+    pub place: usize,
+    pub length: usize,
+}
 
-impl Answer {
-    /// The count as a size.
-    pub const fn size(self) -> usize {
-        self.count as usize
-    }
+#[repr(C)]
+pub struct CountAnswer {
+    pub refusal: Refusal,
+    pub count: usize,
+}
 
-    /// The place as a size.
-    pub const fn start(self) -> usize {
-        self.place as usize
-    }
+#[repr(C)]
+pub struct SizeAnswer {
+    pub refusal: Refusal,
+    pub size: usize,
+}
+
+#[repr(C)]
+pub struct RowAnswer {
+    pub refusal: Refusal,
+    pub row: Row,
+}
+
+#[repr(C)]
+pub struct StartAnswer {
+    pub refusal: Refusal,
+    pub place: usize,
+}
+
+#[repr(C)]
+pub struct NextAnswer {
+    pub row: Row,
+    pub next: usize,
+}
+
+#[repr(C)]
+pub struct ValueAnswer {
+    pub refusal: Refusal,
+    pub value: i64,
+}
+
+#[repr(C)]
+pub struct CodeAnswer {
+    pub refusal: Refusal,
+    pub code: u64,
+}
+
+#[repr(C)]
+pub struct HeightAnswer {
+    pub refusal: Refusal,
+    pub kind: u64,
+    pub height: i64,
+}
+
+#[repr(C)]
+pub struct CornerAnswer {
+    pub refusal: Refusal,
+    pub kind: u64,
+    pub latitude: i64,
+    pub longitude: i64,
+}
+
+#[repr(C)]
+pub struct ItemAnswer {
+    pub stored: u64,
+    pub width: usize,
+    pub low: i64,
+    pub high: i64,
+    pub unit: u64,
+    pub marked: u64,
 }
 
 // The kinds of a row.
@@ -49,8 +106,23 @@ pub const OVER_SEA_LEVEL: u64 = 2;
 pub const POINT: u64 = 1;
 pub const OFF_THE_EARTH: u64 = 2;
 
+// How an item that the catalogue has is stored.
+pub const STORED_UNSIGNED: u64 = 1;
+pub const STORED_SIGNED: u64 = 2;
+pub const STORED_TEXT: u64 = 3;
+
+// The units.
+pub const UNIT_DEGREE: u64 = 1;
+pub const UNIT_METRE: u64 = 2;
+pub const UNIT_METRE_PER_SECOND: u64 = 3;
+pub const UNIT_MILLIBAR: u64 = 4;
+pub const UNIT_PERCENT: u64 = 5;
+pub const UNIT_CELSIUS: u64 = 6;
+pub const UNIT_MICROSECOND: u64 = 7;
+
 extern "C" {
-    fn oyk_check(packet: *const u8, packet_len: usize, low: u64, high: u64) -> Answer;
+    fn oyk_version() -> u64;
+    fn oyk_check(packet: *const u8, packet_len: usize, low: u64, high: u64) -> CountAnswer;
     fn oyk_read(
         packet: *const u8,
         packet_len: usize,
@@ -58,8 +130,8 @@ extern "C" {
         high: u64,
         table: *mut u64,
         table_len: usize,
-    ) -> Answer;
-    fn oyk_row(
+    ) -> CountAnswer;
+    fn oyk_take_row(
         words: *const u64,
         words_len: usize,
         count: usize,
@@ -68,7 +140,15 @@ extern "C" {
         buffer_len: usize,
         low: u64,
         high: u64,
-    ) -> Answer;
+    ) -> RowAnswer;
+    fn oyk_start(packet: *const u8, packet_len: usize, low: u64, high: u64) -> StartAnswer;
+    fn oyk_next(
+        packet: *const u8,
+        packet_len: usize,
+        low: u64,
+        high: u64,
+        place: usize,
+    ) -> NextAnswer;
     fn oyk_write(
         words: *const u64,
         words_len: usize,
@@ -79,7 +159,7 @@ extern "C" {
         high: u64,
         out: *mut u8,
         out_len: usize,
-    ) -> Answer;
+    ) -> SizeAnswer;
     fn oyk_forward(
         packet: *const u8,
         packet_len: usize,
@@ -87,23 +167,40 @@ extern "C" {
         high: u64,
         out: *mut u8,
         out_len: usize,
-    ) -> Answer;
-    fn oyk_to_house(tag: u64, code: u64) -> Answer;
-    fn oyk_to_code(tag: u64, value: i64) -> Answer;
-    fn oyk_sensor_height(packet: *const u8, packet_len: usize, low: u64, high: u64) -> Answer;
-    fn oyk_frame_centre_height(packet: *const u8, packet_len: usize, low: u64, high: u64)
-        -> Answer;
-    fn oyk_corner(packet: *const u8, packet_len: usize, low: u64, high: u64, k: u64) -> Answer;
-    fn oyk_list(packet: *const u8, packet_len: usize, out: *mut u8, out_len: usize) -> Answer;
+    ) -> SizeAnswer;
+    fn oyk_to_house(tag: u64, code: u64) -> ValueAnswer;
+    fn oyk_to_code(tag: u64, value: i64) -> CodeAnswer;
+    fn oyk_sensor_height(packet: *const u8, packet_len: usize, low: u64, high: u64)
+        -> HeightAnswer;
+    fn oyk_frame_centre_height(
+        packet: *const u8,
+        packet_len: usize,
+        low: u64,
+        high: u64,
+    ) -> HeightAnswer;
+    fn oyk_corner(
+        packet: *const u8,
+        packet_len: usize,
+        low: u64,
+        high: u64,
+        k: u64,
+    ) -> CornerAnswer;
+    fn oyk_item(tag: u64) -> ItemAnswer;
+    fn oyk_list(packet: *const u8, packet_len: usize, out: *mut u8, out_len: usize) -> SizeAnswer;
 }
 
-pub fn check(packet: &[u8], knowing: Knowing) -> Answer {
+pub fn version() -> u64 {
+    // SAFETY: no memory is lent.
+    unsafe { oyk_version() }
+}
+
+pub fn check(packet: &[u8], knowing: Knowing) -> CountAnswer {
     let (low, high) = knowing.words();
     // SAFETY: see the top of this module; so below.
     unsafe { oyk_check(packet.as_ptr(), packet.len(), low, high) }
 }
 
-pub fn read(packet: &[u8], knowing: Knowing, table: &mut [u64]) -> Answer {
+pub fn read(packet: &[u8], knowing: Knowing, table: &mut [u64]) -> CountAnswer {
     let (low, high) = knowing.words();
     // SAFETY: as above.
     unsafe {
@@ -118,11 +215,17 @@ pub fn read(packet: &[u8], knowing: Knowing, table: &mut [u64]) -> Answer {
     }
 }
 
-pub fn row(words: &[u64], count: usize, n: usize, buffer: &[u8], knowing: Knowing) -> Answer {
+pub fn take_row(
+    words: &[u64],
+    count: usize,
+    n: usize,
+    buffer: &[u8],
+    knowing: Knowing,
+) -> RowAnswer {
     let (low, high) = knowing.words();
     // SAFETY: as above.
     unsafe {
-        oyk_row(
+        oyk_take_row(
             words.as_ptr(),
             words.len(),
             count,
@@ -135,13 +238,25 @@ pub fn row(words: &[u64], count: usize, n: usize, buffer: &[u8], knowing: Knowin
     }
 }
 
+pub fn start(packet: &[u8], knowing: Knowing) -> StartAnswer {
+    let (low, high) = knowing.words();
+    // SAFETY: as above.
+    unsafe { oyk_start(packet.as_ptr(), packet.len(), low, high) }
+}
+
+pub fn next(packet: &[u8], knowing: Knowing, place: usize) -> NextAnswer {
+    let (low, high) = knowing.words();
+    // SAFETY: as above.
+    unsafe { oyk_next(packet.as_ptr(), packet.len(), low, high, place) }
+}
+
 pub fn write(
     words: &[u64],
     count: usize,
     buffer: &[u8],
     knowing: Knowing,
     out: &mut [u8],
-) -> Answer {
+) -> SizeAnswer {
     let (low, high) = knowing.words();
     // SAFETY: as above.
     unsafe {
@@ -159,7 +274,7 @@ pub fn write(
     }
 }
 
-pub fn forward(packet: &[u8], knowing: Knowing, out: &mut [u8]) -> Answer {
+pub fn forward(packet: &[u8], knowing: Knowing, out: &mut [u8]) -> SizeAnswer {
     let (low, high) = knowing.words();
     // SAFETY: as above.
     unsafe {
@@ -174,35 +289,40 @@ pub fn forward(packet: &[u8], knowing: Knowing, out: &mut [u8]) -> Answer {
     }
 }
 
-pub fn to_house(tag: u64, code: u64) -> Answer {
+pub fn to_house(tag: u64, code: u64) -> ValueAnswer {
     // SAFETY: no memory is lent.
     unsafe { oyk_to_house(tag, code) }
 }
 
-pub fn to_code(tag: u64, value: i64) -> Answer {
+pub fn to_code(tag: u64, value: i64) -> CodeAnswer {
     // SAFETY: no memory is lent.
     unsafe { oyk_to_code(tag, value) }
 }
 
-pub fn sensor_height(packet: &[u8], knowing: Knowing) -> Answer {
+pub fn sensor_height(packet: &[u8], knowing: Knowing) -> HeightAnswer {
     let (low, high) = knowing.words();
     // SAFETY: as above.
     unsafe { oyk_sensor_height(packet.as_ptr(), packet.len(), low, high) }
 }
 
-pub fn frame_centre_height(packet: &[u8], knowing: Knowing) -> Answer {
+pub fn frame_centre_height(packet: &[u8], knowing: Knowing) -> HeightAnswer {
     let (low, high) = knowing.words();
     // SAFETY: as above.
     unsafe { oyk_frame_centre_height(packet.as_ptr(), packet.len(), low, high) }
 }
 
-pub fn corner(packet: &[u8], knowing: Knowing, k: u64) -> Answer {
+pub fn corner(packet: &[u8], knowing: Knowing, k: u64) -> CornerAnswer {
     let (low, high) = knowing.words();
     // SAFETY: as above.
     unsafe { oyk_corner(packet.as_ptr(), packet.len(), low, high, k) }
 }
 
-pub fn list(packet: &[u8], out: &mut [u8]) -> Answer {
+pub fn item(tag: u64) -> ItemAnswer {
+    // SAFETY: no memory is lent.
+    unsafe { oyk_item(tag) }
+}
+
+pub fn list(packet: &[u8], out: &mut [u8]) -> SizeAnswer {
     // SAFETY: as above.
     unsafe { oyk_list(packet.as_ptr(), packet.len(), out.as_mut_ptr(), out.len()) }
 }

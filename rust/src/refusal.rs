@@ -1,4 +1,4 @@
-use crate::raw::Answer;
+use crate::raw;
 use core::fmt;
 
 /// Makes [`Reason`] out of one list of names, numbers and words.
@@ -27,9 +27,19 @@ macro_rules! reasons {
 
         impl Reason {
             /// Every reason of the list, in the order of the numbers.
+            ///
+            /// ```
+            /// use oysterknoll::Reason;
+            ///
+            /// assert!(Reason::ALL.iter().map(|reason| reason.number()).eq(1..=21));
+            /// ```
             pub const ALL: &'static [Reason] = &[$(Reason::$name),*];
 
             /// Document 01's number.
+            ///
+            /// ```
+            /// assert_eq!(oysterknoll::Reason::KnownTagTwice.number(), 13);
+            /// ```
             pub const fn number(self) -> u64 {
                 match self {
                     $(Reason::$name => $number,)*
@@ -38,6 +48,13 @@ macro_rules! reasons {
             }
 
             /// The reason of the list with this number, if there is one.
+            ///
+            /// ```
+            /// use oysterknoll::Reason;
+            ///
+            /// assert_eq!(Reason::from_number(18), Some(Reason::OutputTooShort));
+            /// assert_eq!(Reason::from_number(0), None);
+            /// ```
             pub const fn from_number(number: u64) -> Option<Reason> {
                 match number {
                     $($number => Some(Reason::$name),)*
@@ -104,6 +121,11 @@ pub struct Refusal {
 
 impl Refusal {
     /// Document 01's number of the reason.
+    ///
+    /// ```
+    /// let refusal = oysterknoll::to_house(2, 0).unwrap_err();
+    /// assert_eq!(refusal.number(), 19);
+    /// ```
     pub const fn number(&self) -> u64 {
         self.reason.number()
     }
@@ -122,14 +144,14 @@ impl fmt::Display for Refusal {
 
 impl core::error::Error for Refusal {}
 
-impl Answer {
-    /// The answer where nothing is refused, else the refusal.
-    pub(crate) fn accepted(self) -> Result<Answer, Refusal> {
-        match self.refusal {
-            0 => Ok(self),
+impl raw::Refusal {
+    /// What was asked for where nothing is refused, else the refusal.
+    pub(crate) fn or<T>(self, asked: T) -> Result<T, Refusal> {
+        match self.number {
+            0 => Ok(asked),
             number => Err(Refusal {
                 reason: Reason::from_number(number).unwrap_or(Reason::Unlisted(number)),
-                place: self.start(),
+                place: self.place,
                 tag: self.tag,
             }),
         }

@@ -5,15 +5,41 @@ use core::iter::FusedIterator;
 use core::ops::Range;
 
 /// How many words a row has in a table.
-const WORDS_A_ROW: usize = 4;
+pub(crate) const WORDS_A_ROW: usize = 4;
 
 /// One row: its tag beside one of four kinds of content.
+///
+/// ```
+/// use oysterknoll::{items, Content, Knowing, Row};
+///
+/// let packet = include_bytes!("../../samples/smallest.klv");
+/// let version = Row { tag: 65, content: Content::Reading(17) };
+/// assert_eq!(items(packet, Knowing::ALL)?.nth(1), Some(version));
+/// # Ok::<(), oysterknoll::Refusal>(())
+/// ```
 #[derive(Clone, Copy, Debug, PartialEq, Eq, Hash)]
 pub struct Row<'a> {
     /// The item's tag.
     pub tag: u64,
     /// What the item holds.
     pub content: Content<'a>,
+}
+
+impl<'a> Row<'a> {
+    /// The row that the library answers, its text or carried bytes as a part of the buffer. There is none for a kind that the library
+    /// does not have, and none for a part outside the buffer.
+    pub(crate) fn in_buffer(row: raw::Row, buffer: &'a [u8]) -> Option<Row<'a>> {
+        let part = || buffer.get(row.place..)?.get(..row.length);
+        let content = match row.kind {
+            raw::READING => Content::Reading(row.code),
+            raw::MARK => Content::Mark,
+            raw::TEXT => Content::Text(part()?),
+            raw::CARRIED => Content::Carried(part()?),
+            _ => return None,
+        };
+        let tag = row.tag;
+        Some(Row { tag, content })
+    }
 }
 
 /// What an item holds, as the receiver sees it.
@@ -29,7 +55,7 @@ pub struct Row<'a> {
 ///         },
 ///         Content::Mark => format!("item {}: marked", row.tag),
 ///         Content::Text(bytes) => format!("item {}: {}", row.tag, String::from_utf8_lossy(bytes)),
-///         _ => format!("item {}: not known here", row.tag),
+///         Content::Carried(bytes) => format!("item {}: {} bytes, not known here", row.tag, bytes.len()),
 ///     }
 /// }
 ///
@@ -37,7 +63,6 @@ pub struct Row<'a> {
 /// assert_eq!(say(Row { tag: 11, content: Content::Text(b"EO") }), "item 11: EO");
 /// ```
 #[derive(Clone, Copy, Debug, PartialEq, Eq, Hash)]
-#[non_exhaustive]
 pub enum Content<'a> {
     /// A number, by its stored code; [`to_house`](crate::to_house) turns it into house units where the tag has a scale.
     Reading(u64),
@@ -49,7 +74,7 @@ pub enum Content<'a> {
     Carried(&'a [u8]),
 }
 
-/// The rows of a packet that was read, by [`read`]. Each value is a part of the packet.
+/// The rows of a packet that was read, by [`read`], in the words of the lent table.
 ///
 /// ```
 /// use oysterknoll::{read, Content, Knowing, TABLE_WORDS};
@@ -63,11 +88,25 @@ pub enum Content<'a> {
 /// assert_eq!(tags, [2, 65, 1]);
 /// # Ok::<(), oysterknoll::Refusal>(())
 /// ```
+///
+/// Each value is a part of the packet, not of the table, which may be used again while a value is kept:
+///
+/// ```
+/// use oysterknoll::{read, Content, Knowing, TABLE_WORDS};
+///
+/// let (tower, smallest) = (include_bytes!("../../samples/tower.klv"), include_bytes!("../../samples/smallest.klv"));
+/// let mut table = [0; TABLE_WORDS];
+/// let mission = read(tower, Knowing::ALL, &mut table)?.into_iter().find(|row| row.tag == 3);
+/// let rows = read(smallest, Knowing::ALL, &mut table)?;
+/// assert_eq!(rows.len(), 3);
+/// assert_eq!(mission.map(|row| row.content), Some(Content::Text(b"TOWER 17 NORTH")));
+/// # Ok::<(), oysterknoll::Refusal>(())
+/// ```
 #[derive(Clone, Copy)]
-pub struct Rows<'a> {
-    packet: &'a [u8],
+pub struct Rows<'p, 't> {
+    packet: &'p [u8],
     knowing: Knowing,
-    words: &'a [u64],
+    words: &'t [u64],
 }
 
 /// Reads a packet into the lent table, which has at least [`TABLE_WORDS`](crate::TABLE_WORDS) words.
@@ -91,12 +130,13 @@ pub struct Rows<'a> {
 /// assert_eq!(mission, Some(Content::Text(b"TOWER 17 NORTH")));
 /// # Ok::<(), oysterknoll::Refusal>(())
 /// ```
-pub fn read<'a>(
-    packet: &'a [u8],
+pub fn read<'p, 't>(
+    packet: &'p [u8],
     knowing: Knowing,
-    table: &'a mut [u64],
-) -> Result<Rows<'a>, Refusal> {
-    let count = raw::read(packet, knowing, table).accepted()?.size();
+    table: &'t mut [u64],
+) -> Result<Rows<'p, 't>, Refusal> {
+    let answer = raw::read(packet, knowing, table);
+    let count = answer.refusal.or(answer.count)?;
     // The library's rows always fit the table; if they did not, none would be handed out.
     let words = count
         .checked_mul(WORDS_A_ROW)
@@ -109,71 +149,133 @@ pub fn read<'a>(
     })
 }
 
-impl<'a> Rows<'a> {
+impl<'p, 't> Rows<'p, 't> {
     /// How many rows there are.
+    ///
+    /// ```
+    /// use oysterknoll::{read, Knowing, TABLE_WORDS};
+    ///
+    /// let packet = include_bytes!("../../samples/tower.klv");
+    /// let mut table = [0; TABLE_WORDS];
+    /// let rows = read(packet, Knowing::ALL, &mut table)?;
+    /// assert_eq!(rows.len(), 52);
+    /// # Ok::<(), oysterknoll::Refusal>(())
+    /// ```
     pub const fn len(&self) -> usize {
         self.words.len() / WORDS_A_ROW
     }
 
     /// Whether there is no row. Those of a packet are never none.
+    ///
+    /// ```
+    /// use oysterknoll::{read, Knowing, TABLE_WORDS};
+    ///
+    /// let packet = include_bytes!("../../samples/smallest.klv");
+    /// let mut table = [0; TABLE_WORDS];
+    /// let rows = read(packet, Knowing::ALL, &mut table)?;
+    /// assert!(!rows.is_empty());
+    /// # Ok::<(), oysterknoll::Refusal>(())
+    /// ```
     pub const fn is_empty(&self) -> bool {
         self.words.is_empty()
     }
 
     /// Row n, counted from 0.
-    pub fn get(&self, n: usize) -> Option<Row<'a>> {
+    ///
+    /// ```
+    /// use oysterknoll::{read, Knowing, TABLE_WORDS};
+    ///
+    /// let packet = include_bytes!("../../samples/smallest.klv");
+    /// let mut table = [0; TABLE_WORDS];
+    /// let rows = read(packet, Knowing::ALL, &mut table)?;
+    /// assert_eq!(rows.get(0).map(|row| row.tag), Some(2));
+    /// assert_eq!(rows.get(3), None);
+    /// # Ok::<(), oysterknoll::Refusal>(())
+    /// ```
+    pub fn get(&self, n: usize) -> Option<Row<'p>> {
         take_row(self.words, self.len(), n, self.packet, self.knowing).ok()
     }
 
     /// The rows one by one.
-    pub fn iter(&self) -> RowsIter<'a> {
+    ///
+    /// ```
+    /// use oysterknoll::{read, Knowing, TABLE_WORDS};
+    ///
+    /// let packet = include_bytes!("../../samples/tower.klv");
+    /// let mut table = [0; TABLE_WORDS];
+    /// let rows = read(packet, Knowing::ALL, &mut table)?;
+    /// assert_eq!(rows.iter().filter(|row| row.tag == 100).count(), 2);
+    /// # Ok::<(), oysterknoll::Refusal>(())
+    /// ```
+    pub fn iter(&self) -> RowsIter<'p, 't> {
         RowsIter {
             rows: *self,
             left: 0..self.len(),
         }
     }
 
-    /// The words of the rows, four a row, as [`write()`] takes them.
-    pub const fn words(&self) -> &'a [u64] {
+    /// The words of the rows, four a row, as [`write()`](crate::write()) takes them.
+    ///
+    /// ```
+    /// use oysterknoll::{read, Knowing, TABLE_WORDS};
+    ///
+    /// let packet = include_bytes!("../../samples/smallest.klv");
+    /// let mut table = [0; TABLE_WORDS];
+    /// let rows = read(packet, Knowing::ALL, &mut table)?;
+    /// assert_eq!(rows.words()[..4], [2, 1, 1, 19 * 65_536 + 8]); // tag, kind, code, place and length
+    /// # Ok::<(), oysterknoll::Refusal>(())
+    /// ```
+    pub const fn words(&self) -> &'t [u64] {
         self.words
     }
 }
 
-impl fmt::Debug for Rows<'_> {
+impl fmt::Debug for Rows<'_, '_> {
     fn fmt(&self, f: &mut fmt::Formatter<'_>) -> fmt::Result {
         f.debug_list().entries(self).finish()
     }
 }
 
-impl<'a> IntoIterator for Rows<'a> {
-    type Item = Row<'a>;
-    type IntoIter = RowsIter<'a>;
+impl<'p, 't> IntoIterator for Rows<'p, 't> {
+    type Item = Row<'p>;
+    type IntoIter = RowsIter<'p, 't>;
 
-    fn into_iter(self) -> RowsIter<'a> {
+    fn into_iter(self) -> RowsIter<'p, 't> {
         self.iter()
     }
 }
 
-impl<'a> IntoIterator for &Rows<'a> {
-    type Item = Row<'a>;
-    type IntoIter = RowsIter<'a>;
+impl<'p, 't> IntoIterator for &Rows<'p, 't> {
+    type Item = Row<'p>;
+    type IntoIter = RowsIter<'p, 't>;
 
-    fn into_iter(self) -> RowsIter<'a> {
+    fn into_iter(self) -> RowsIter<'p, 't> {
         self.iter()
     }
 }
 
-/// The rows of a packet one by one, from either end.
+/// The rows of a packet one by one, from either end, by [`Rows::iter`].
+///
+/// ```
+/// use oysterknoll::{read, Knowing, TABLE_WORDS};
+///
+/// let packet = include_bytes!("../../samples/smallest.klv");
+/// let mut table = [0; TABLE_WORDS];
+/// let mut rows = read(packet, Knowing::ALL, &mut table)?.iter();
+/// assert_eq!(rows.next_back().map(|row| row.tag), Some(1));
+/// assert_eq!(rows.len(), 2);
+/// # Ok::<(), oysterknoll::Refusal>(())
+/// ```
 #[derive(Clone, Debug)]
-pub struct RowsIter<'a> {
-    rows: Rows<'a>,
+pub struct RowsIter<'p, 't> {
+    rows: Rows<'p, 't>,
     left: Range<usize>,
 }
 
-impl<'a> Iterator for RowsIter<'a> {
-    type Item = Row<'a>;
+impl<'p> Iterator for RowsIter<'p, '_> {
+    type Item = Row<'p>;
 
-    fn next(&mut self) -> Option<Row<'a>> {
+    fn next(&mut self) -> Option<Row<'p>> {
         self.left.next().and_then(|n| self.rows.get(n))
     }
 
@@ -182,15 +284,15 @@ impl<'a> Iterator for RowsIter<'a> {
     }
 }
 
-impl<'a> DoubleEndedIterator for RowsIter<'a> {
-    fn next_back(&mut self) -> Option<Row<'a>> {
+impl<'p> DoubleEndedIterator for RowsIter<'p, '_> {
+    fn next_back(&mut self) -> Option<Row<'p>> {
         self.left.next_back().and_then(|n| self.rows.get(n))
     }
 }
 
-impl ExactSizeIterator for RowsIter<'_> {}
+impl ExactSizeIterator for RowsIter<'_, '_> {}
 
-impl FusedIterator for RowsIter<'_> {}
+impl FusedIterator for RowsIter<'_, '_> {}
 
 /// Takes row n out of the `count` rows in `words`. Text and carried rows give their part of the buffer.
 ///
@@ -212,66 +314,20 @@ impl FusedIterator for RowsIter<'_> {}
 /// assert_eq!((past.reason, past.place, past.tag), (Reason::RowBad, 1, 0));
 /// # Ok::<(), oysterknoll::Refusal>(())
 /// ```
-pub fn take_row<'a>(
+pub fn take_row<'b>(
     words: &[u64],
     count: usize,
     n: usize,
-    buffer: &'a [u8],
+    buffer: &'b [u8],
     knowing: Knowing,
-) -> Result<Row<'a>, Refusal> {
-    let row = raw::row(words, count, n, buffer, knowing).accepted()?;
-    let tag = row.tag;
-    let part = || part_of(buffer, row.start(), row.size());
-    let content = match row.kind {
-        raw::READING => Some(Content::Reading(row.count)),
-        raw::MARK => Some(Content::Mark),
-        raw::TEXT => part().map(Content::Text),
-        raw::CARRIED => part().map(Content::Carried),
-        _ => None,
-    };
-    // The library answers no other kind and no part outside the buffer: such a row is a bad one, and it has refused that already.
+) -> Result<Row<'b>, Refusal> {
+    let answer = raw::take_row(words, count, n, buffer, knowing);
+    let row = answer.refusal.or(answer.row)?;
+    // What the library answers is always a row in the buffer: any other is a bad one, and it has refused that already.
     let bad = Refusal {
         reason: Reason::RowBad,
         place: n,
-        tag,
+        tag: row.tag,
     };
-    content.map(|content| Row { tag, content }).ok_or(bad)
-}
-
-/// The part of the buffer from `place` on with `length` bytes, if it is all there.
-fn part_of(buffer: &[u8], place: usize, length: usize) -> Option<&[u8]> {
-    buffer.get(place..)?.get(..length)
-}
-
-/// Writes the `count` rows in `words` as a packet at the front of `out`, and answers its number of bytes.
-///
-/// Text and carried rows point into `buffer`. The order of the rows is kept, lengths take their shortest form, and the checksum is
-/// worked out afresh. Bytes after the packet stay; a refusal changes nothing.
-///
-/// # Errors
-///
-/// The writer's refusals: 1, 16, 17, 3, 9, 10, 12 to 15 and 18, in this order; the place is a row number.
-///
-/// # Example
-///
-/// ```
-/// use oysterknoll::{read, write, Knowing, LONGEST_PACKET, TABLE_WORDS};
-///
-/// let packet = include_bytes!("../../samples/relayed.klv");
-/// let mut table = [0; TABLE_WORDS];
-/// let rows = read(packet, Knowing::ALL, &mut table)?;
-/// let mut out = [0; LONGEST_PACKET];
-/// let size = write(rows.words(), rows.len(), packet, Knowing::ALL, &mut out)?;
-/// assert_eq!(&out[..size], include_bytes!("../../samples/tower.klv"));
-/// # Ok::<(), oysterknoll::Refusal>(())
-/// ```
-pub fn write(
-    words: &[u64],
-    count: usize,
-    buffer: &[u8],
-    knowing: Knowing,
-    out: &mut [u8],
-) -> Result<usize, Refusal> {
-    let written = raw::write(words, count, buffer, knowing, out).accepted()?;
-    Ok(written.size())
+    Row::in_buffer(row, buffer).ok_or(bad)
 }

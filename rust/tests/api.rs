@@ -1,5 +1,12 @@
 //! What the crate answers for the stored packets, at the ends of what can be lent to it, and on refusals.
 
+#[path = "api/values.rs"]
+mod values;
+#[path = "api/walk.rs"]
+mod walk;
+#[path = "api/writing.rs"]
+mod writing;
+
 use oysterknoll::*;
 use std::fs;
 use std::path::{Path, PathBuf};
@@ -75,6 +82,8 @@ fn a_packet_gets_one_answer_from_every_reader() {
         let mut out = [0; LONGEST_PACKET];
         let rows = read(&packet, Knowing::ALL, &mut table).map(|rows| rows.len());
         assert_eq!(rows, counted);
+        let walked = items(&packet, Knowing::ALL).map(Iterator::count);
+        assert_eq!(walked, counted);
         assert_eq!(forward(&packet, Knowing::ALL, &mut out).err(), refusal);
         assert_eq!(sensor_height(&packet, Knowing::ALL).err(), refusal);
         assert_eq!(frame_centre_height(&packet, Knowing::ALL).err(), refusal);
@@ -88,6 +97,7 @@ fn a_packet_gets_one_answer_from_every_reader() {
 fn empty_slices_have_answers() {
     let smallest = sample("smallest");
     assert_eq!(refused(check(&[], Knowing::ALL)), (4, 0, 0));
+    assert_eq!(refused(items(&[], Knowing::ALL)), (4, 0, 0));
     assert_eq!(refused(read(&smallest, Knowing::ALL, &mut [])), (2, 0, 0));
     assert_eq!(refused(forward(&[], Knowing::ALL, &mut [])), (4, 0, 0));
     assert_eq!(
@@ -100,6 +110,7 @@ fn empty_slices_have_answers() {
         refused(write(&[], 0, &[], Knowing::ALL, &mut [])),
         (9, 0, 0)
     );
+    assert_eq!(refused(write_rows(&[], Knowing::ALL, &mut [])), (9, 0, 0));
     assert_eq!(refused(take_row(&[], 0, 0, &[], Knowing::ALL)), (17, 0, 0));
 }
 
@@ -113,9 +124,11 @@ fn a_set_that_is_not_good_is_refused_first() {
     ] {
         let first = (1, 0, 0);
         assert_eq!(refused(check(&[], bad)), first);
+        assert_eq!(refused(items(&[], bad)), first);
         assert_eq!(refused(read(&[], bad, &mut [])), first);
         assert_eq!(refused(take_row(&[], 1, 0, &[], bad)), first);
         assert_eq!(refused(write(&[], 1, &[], bad, &mut [])), first);
+        assert_eq!(refused(write_rows(&[], bad, &mut [])), first);
         assert_eq!(refused(forward(&[], bad, &mut [])), first);
         assert_eq!(refused(sensor_height(&[], bad)), first);
         assert_eq!(refused(frame_centre_height(&[], bad)), first);
@@ -175,7 +188,7 @@ fn rows_are_taken_one_by_one_from_either_end() {
 }
 
 /// What the rows of one tag hold.
-fn contents<'a>(rows: Rows<'a>, tag: u64) -> Vec<Content<'a>> {
+fn contents<'p>(rows: Rows<'p, '_>, tag: u64) -> Vec<Content<'p>> {
     let found = rows.into_iter().filter(|row| row.tag == tag);
     found.map(|row| row.content).collect()
 }
@@ -200,15 +213,21 @@ fn rows_hold_the_four_kinds_of_content() {
 }
 
 #[test]
-fn a_text_is_a_part_of_the_packet() {
-    let packet = sample("tower");
-    let mut table = [0; TABLE_WORDS];
-    let rows = read(&packet, Knowing::ALL, &mut table).unwrap();
-    let mission = rows.iter().find(|row| row.tag == 3).unwrap();
+fn a_text_is_a_part_of_the_packet_and_outlives_the_table() {
+    let (tower, smallest) = (sample("tower"), sample("smallest"));
+    let mission = {
+        let mut table = [0; TABLE_WORDS];
+        let rows = read(&tower, Knowing::ALL, &mut table).unwrap();
+        let mission = rows.get(2).unwrap();
+        let again = read(&smallest, Knowing::ALL, &mut table).unwrap();
+        assert_eq!(again.len(), 3);
+        mission
+    };
     let Content::Text(text) = mission.content else {
         panic!("item 3 is a text");
     };
-    assert!(packet.as_ptr_range().contains(&text.as_ptr()));
+    assert_eq!(text, b"TOWER 17 NORTH");
+    assert!(tower.as_ptr_range().contains(&text.as_ptr()));
 }
 
 #[test]

@@ -18,16 +18,22 @@ mod demands;
 mod laws;
 #[path = "differential/lent.rs"]
 mod lent;
+#[path = "differential/lists.rs"]
+mod lists;
 #[path = "differential/make.rs"]
 mod make;
 #[path = "differential/random.rs"]
 mod random;
+#[path = "differential/same.rs"]
+mod same;
 #[path = "differential/tables.rs"]
 mod tables;
 #[path = "differential/twin.rs"]
 mod twin;
 #[path = "differential/twin_answers.rs"]
 mod twin_answers;
+#[path = "differential/twin_records.rs"]
+mod twin_records;
 #[path = "differential/twin_write.rs"]
 mod twin_write;
 #[path = "differential/wire.rs"]
@@ -36,24 +42,25 @@ mod wire;
 mod worked;
 
 use bench::{must_hold, report, run, Bench, Law};
+use catalogue::{tags_of, ALL};
 use compare::Comparer;
 use conversions::{code_agrees, edge_codes, edge_values, scaled, ties, value_agrees};
 use twin::{Twin, ALTERATIONS};
 use twin_answers::Scale;
 
-/// The laws on packets, tables and listings, then the one on conversions.
-const LAWS: [Law; 7] = [
+/// The laws on packets, tables, listings and records, then the one on conversions.
+const LAWS: [Law; 9] = [
     Law {
         number: 1,
         name: "reader",
-        share: 320_000,
+        share: 260_000,
         refusals: &[1, 2, 3, 4, 5, 6, 7, 8, 9, 10, 11, 12, 13, 14, 15],
         case: laws::reader,
     },
     Law {
         number: 2,
         name: "forwarder",
-        share: 120_000,
+        share: 100_000,
         refusals: &[1, 3, 4, 5, 6, 7, 8, 9, 10, 11, 12, 13, 14, 15, 18],
         case: laws::forwarder,
     },
@@ -67,7 +74,7 @@ const LAWS: [Law; 7] = [
     Law {
         number: 4,
         name: "writer",
-        share: 250_000,
+        share: 180_000,
         refusals: &[1, 3, 9, 10, 12, 13, 14, 15, 16, 17, 18],
         case: laws::writer,
     },
@@ -86,9 +93,23 @@ const LAWS: [Law; 7] = [
         case: laws::listing,
     },
     Law {
+        number: 10,
+        name: "walker",
+        share: 100_000,
+        refusals: &[1, 3, 4, 5, 6, 7, 8, 9, 10, 11, 12, 13, 14, 15],
+        case: laws::walker,
+    },
+    Law {
+        number: 11,
+        name: "writer of records",
+        share: 100_000,
+        refusals: &[1, 3, 9, 10, 12, 13, 14, 15, 16, 17, 18],
+        case: laws::writer_of_records,
+    },
+    Law {
         number: 7,
         name: "conversions",
-        share: 330_000,
+        share: 280_000,
         refusals: &[19, 20, 21],
         case: conversions::conversions,
     },
@@ -109,6 +130,13 @@ const FULLER_AND_POORER: Law = Law {
     // Those that only the fuller receiver gives.
     refusals: &[12, 13, 14],
     case: demands::fuller_and_poorer,
+};
+const WALKED_AND_WRITTEN: Law = Law {
+    number: 12,
+    name: "walked and written",
+    share: 20_000,
+    refusals: &[1, 3, 4, 5, 6, 7, 8, 9, 10, 11, 12, 13, 14, 15],
+    case: demands::walked_and_written,
 };
 
 /// The comparisons of product and twin in the gate.
@@ -133,8 +161,8 @@ const fn total() -> u64 {
 }
 
 const _: () = assert!(TOTAL >= 1_000_000);
-// Packets, tables and listings: all but the conversions.
-const _: () = assert!(TOTAL - LAWS[6].share >= 1_000_000);
+// Packets, tables, listings and records: all but the conversions.
+const _: () = assert!(TOTAL - LAWS[8].share >= 1_000_000);
 
 #[test]
 fn reader() {
@@ -167,8 +195,18 @@ fn listing() {
 }
 
 #[test]
-fn conversions_of_edges_and_samples() {
+fn walker() {
     run(&LAWS[6]);
+}
+
+#[test]
+fn writer_of_records() {
+    run(&LAWS[7]);
+}
+
+#[test]
+fn conversions_of_edges_and_samples() {
+    run(&LAWS[8]);
 }
 
 #[test]
@@ -179,6 +217,25 @@ fn what_is_written_reads_back_as_it_was() {
 #[test]
 fn a_poorer_receiver_agrees_with_a_fuller_one() {
     run(&FULLER_AND_POORER);
+}
+
+#[test]
+fn what_is_walked_is_read_and_its_records_are_sent_on() {
+    run(&WALKED_AND_WRITTEN);
+}
+
+/// Every tag up to 300, then those that a shift or a cut takes for one of the catalogue's.
+#[test]
+fn every_tag_of_the_catalogue() {
+    let mut comparer = Comparer::new(Twin::TRUE);
+    let far = (8..64).flat_map(|bit| (0..128).map(move |tag| 1 << bit | tag));
+    let last = u64::MAX - 300..=u64::MAX;
+    for tag in (0..=300).chain(far).chain(last) {
+        must_hold(comparer.item(tag));
+    }
+    report("every tag of the catalogue", &comparer.tally);
+    let all = oysterknoll::catalogue::all().map(Some);
+    assert!(all.eq(tags_of(ALL).map(oysterknoll::catalogue::item)));
 }
 
 #[test]
@@ -243,13 +300,15 @@ fn every_tie() {
     report("every tie", &comparer.tally);
 }
 
-/// A twin with one rule told wrongly differs from the product within few cases.
+/// A twin with one rule told wrongly differs from the product within few cases; round n asks for item n too.
 #[test]
 fn every_alteration_is_noticed() {
-    for alteration in ALTERATIONS {
+    for &alteration in ALTERATIONS {
         let mut bench = Bench::new(Twin::altered(alteration));
-        let noticed =
-            (0..20_000).find(|&case| LAWS.iter().any(|law| bench.try_case(law, case).is_err()));
+        let noticed = (0..20_000).find(|&case| {
+            LAWS.iter().any(|law| bench.try_case(law, case).is_err())
+                || bench.comparer.item(case).is_err()
+        });
         println!("{alteration:?}: noticed in round {noticed:?}");
         assert!(noticed.is_some(), "{alteration:?} is not noticed");
     }

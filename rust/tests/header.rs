@@ -1,39 +1,46 @@
-//! Holds the C header, the crate and the proved code to each other: constants by name and number, the answer's fields in order, and the
-//! functions with their parameters.
+//! Holds the C header, the crate and the proved code to each other: constants by name and number, structs with their fields in order,
+//! functions with their parameters and answers; and the items of header, crate and archive to those of ST 0601.
 
-use oysterknoll::{Knowing, Reason, LONGEST_LISTING, LONGEST_PACKET, TABLE_WORDS};
+use oysterknoll::catalogue::{self, Range, Stored, Unit};
+use oysterknoll::{
+    version, Knowing, Reason, LONGEST_LISTING, LONGEST_PACKET, TABLE_WORDS, VERSION,
+};
+use std::array::from_fn;
 use std::collections::BTreeMap;
 
 const HEADER: &str = include_str!("../../include/oysterknoll.h");
 const CRATE: &str = include_str!("../src/lib.rs");
 const RAW: &str = include_str!("../src/raw.rs");
 const PROVED: &str = include_str!("../../crates/oysterknoll/src/lib.rt");
+const NAMES: &str = include_str!("../../tests/names/st0601.tsv");
 const LISTING: &str = include_str!("../../crates/listing/src/lib.rt");
 const LISTING_DEFINED: &str = include_str!("../../crates/listing/specs/Listing.antt");
 
-/// Every constant of the header, by its name after `OYK_`.
+/// Every constant of the header, by its name after `OYK_`. A macro with parameters is none.
 fn header_constants() -> BTreeMap<String, u64> {
     let code = without_comments(HEADER);
     let defined = code
         .lines()
-        .filter_map(|line| line.strip_prefix("#define OYK_"));
-    let pairs = defined.map(|line| {
-        let (name, value) = line.split_once(' ').expect("a constant has a value");
-        (name.to_string(), number(value.trim()))
-    });
-    distinct(pairs)
+        .filter_map(|line| line.strip_prefix("#define OYK_")?.split_once(' '));
+    let constants = defined.filter(|(name, _)| !name.contains('('));
+    distinct(constants.map(|(name, value)| (name.to_string(), number(value.trim()))))
 }
 
 /// Every constant of the crate, by the name that it has in the header.
 fn crate_constants() -> BTreeMap<String, u64> {
     let (low, high) = Knowing::ALL.words();
     let sizes = [
+        ("VERSION", VERSION),
         ("TABLE_WORDS", TABLE_WORDS as u64),
         ("LONGEST_PACKET", LONGEST_PACKET as u64),
         ("LONGEST_LISTING", LONGEST_LISTING as u64),
         ("KNOWS_ALL_LOW", low),
         ("KNOWS_ALL_HIGH", high),
-        ("MISSING", 0), // what the crate takes any kind for that it does not name
+        // What the crate takes any number for that it does not name.
+        ("MISSING", 0),
+        ("NO_MORE", 0),
+        ("NOT_LISTED", 0),
+        ("UNIT_NONE", 0),
     ];
     let sizes = sizes.map(|(name, value)| (name.to_string(), value));
     let reasons = Reason::ALL.iter().map(|reason| {
@@ -43,7 +50,7 @@ fn crate_constants() -> BTreeMap<String, u64> {
     distinct(sizes.into_iter().chain(reasons).chain(raw_kinds()))
 }
 
-/// The kinds that the crate's private module names.
+/// The kinds and units that the crate's private module names.
 fn raw_kinds() -> impl Iterator<Item = (String, u64)> {
     let lines = RAW
         .lines()
@@ -105,10 +112,43 @@ fn without_comments(code: &str) -> String {
     lines.map(|line| format!("{line}\n")).collect()
 }
 
+/// The header's declarations: what is neither a comment nor a line for the preprocessor.
+fn declarations() -> String {
+    let mut out = String::new();
+    let mut goes_on = false;
+    for line in without_comments(HEADER).lines() {
+        let for_preprocessor = goes_on || line.starts_with('#');
+        goes_on = for_preprocessor && line.ends_with('\\');
+        if !for_preprocessor {
+            out += line;
+            out += "\n";
+        }
+    }
+    out
+}
+
 /// The part of the code after `from` and before `to`.
 fn between<'a>(code: &'a str, from: &str, to: &str) -> &'a str {
     let (_, rest) = code.split_once(from).expect("a start");
     rest.split_once(to).expect("an end").0
+}
+
+/// `oyk_count_answer` as `CountAnswer`.
+fn camel(name: &str) -> String {
+    let words = name.strip_prefix("oyk_").expect("a name of the header");
+    let capital = |word: &str| word[..1].to_uppercase() + &word[1..];
+    words.split('_').map(capital).collect()
+}
+
+/// A type of C as Rust has it.
+fn type_in_rust(kind: &str) -> String {
+    match kind {
+        "uint8_t" => "u8".to_string(),
+        "uint64_t" => "u64".to_string(),
+        "int64_t" => "i64".to_string(),
+        "size_t" => "usize".to_string(),
+        other => camel(other),
+    }
 }
 
 /// A C declaration such as `const uint8_t *packet` as `packet: *const u8`.
@@ -117,78 +157,98 @@ fn in_rust(declaration: &str) -> String {
         .trim()
         .rsplit_once(' ')
         .expect("a type and a name");
-    let pointer = name.starts_with('*');
     let (constant, kind) = match kind.strip_prefix("const ") {
         Some(kind) => (true, kind),
         None => (false, kind),
     };
-    let kind = match kind {
-        "uint8_t" => "u8",
-        "uint64_t" => "u64",
-        "int64_t" => "i64",
-        "size_t" => "usize",
-        other => panic!("{other} has no counterpart"),
-    };
-    let lent = match (pointer, constant) {
+    let lent = match (name.starts_with('*'), constant) {
         (true, true) => "*const ",
         (true, false) => "*mut ",
         (false, _) => "",
     };
-    format!("{}: {lent}{kind}", name.trim_start_matches('*'))
+    let (name, kind) = (name.trim_start_matches('*'), type_in_rust(kind));
+    format!("{name}: {lent}{kind}")
 }
 
-/// Name and parameters of a function.
-type Function = (String, Vec<String>);
-
-/// What stands between brackets, parted by commas, without line ends and spaces around.
-fn parameters(list: &str) -> impl Iterator<Item = String> + '_ {
+/// The parts of a list, without line ends and spaces around.
+fn parts(list: &str, end: char) -> impl Iterator<Item = String> + '_ {
     let parts = list
-        .split(',')
+        .split(end)
         .map(|part| part.split_whitespace().collect::<Vec<_>>().join(" "));
     parts.filter(|part| !part.is_empty())
 }
 
-fn header_functions() -> Vec<Function> {
-    let code = without_comments(HEADER);
-    let declared = code
-        .split(';')
-        .filter_map(|part| part.split_once("oyk_answer oyk_"));
-    let functions = declared.map(|(_, rest)| {
-        let (name, list) = rest.split_once('(').expect("parameters");
-        let list = list.trim_end().trim_end_matches(')');
-        (
-            format!("oyk_{name}"),
-            parameters(list).map(|p| in_rust(&p)).collect(),
-        )
+/// Each struct, by its name in Rust, with its fields in order.
+type Structs = BTreeMap<String, Vec<String>>;
+
+fn header_structs() -> Structs {
+    let code = declarations();
+    let declared = code.split("typedef struct ").skip(1).map(|declaration| {
+        let (name, rest) = declaration.split_once(" {").expect("fields");
+        let (fields, rest) = rest.split_once('}').expect("an end of fields");
+        assert!(rest.starts_with(&format!(" {name};")), "{name}");
+        let fields = parts(fields, ';').map(|field| in_rust(&field));
+        (camel(name), fields.collect())
+    });
+    declared.collect()
+}
+
+/// The structs of Rust or of the proved code that are laid out as in C.
+fn structs(code: &str) -> Structs {
+    let declared = code.split("#[repr(C)]\npub struct ").skip(1);
+    let structs = declared.map(|declaration| {
+        let (name, rest) = declaration.split_once(" {").expect("fields");
+        let (fields, _) = rest.split_once('}').expect("an end of fields");
+        let public = |field: String| field.strip_prefix("pub ").expect("public").to_string();
+        (name.to_string(), parts(fields, ',').map(public).collect())
+    });
+    structs.collect()
+}
+
+/// Each function by its name, with its parameters in order and its answer.
+type Functions = BTreeMap<String, (Vec<String>, String)>;
+
+fn header_functions() -> Functions {
+    let code = declarations();
+    let declared = code.split(';').filter_map(|part| part.split_once('('));
+    let functions = declared.map(|(head, list)| {
+        let (answer, name) = head.trim().rsplit_once(' ').expect("an answer");
+        let list = parts(list.trim_end().trim_end_matches(')'), ',');
+        let lent = list.filter(|part| part != "void");
+        let parameters = lent.map(|part| in_rust(&part)).collect();
+        (name.to_string(), (parameters, type_in_rust(answer)))
     });
     functions.collect()
 }
 
-fn raw_functions() -> Vec<Function> {
+fn raw_functions() -> Functions {
     let block = between(RAW, "extern \"C\" {", "\n}");
-    let declared = block
-        .split(';')
-        .filter_map(|part| part.split_once("fn oyk_"));
-    let functions = declared.map(|(_, rest)| {
-        let (name, rest) = rest.split_once('(').expect("parameters");
-        let (list, answer) = rest.split_once(')').expect("an end of parameters");
-        assert_eq!(answer.trim(), "-> Answer");
-        (format!("oyk_{name}"), parameters(list).collect())
+    let functions = block.split("fn ").skip(1).map(|declaration| {
+        let (name, list, answer) = signature(declaration);
+        (name, (parts(list, ',').collect(), answer))
     });
     functions.collect()
 }
 
 /// The functions of the proved code as C sees them.
-fn proved_functions() -> Vec<Function> {
+fn proved_functions() -> Functions {
     let declared = PROVED.split("pub extern \"C\" fn ").skip(1);
     let functions = declared.map(|declaration| {
-        let (name, rest) = declaration.split_once('(').expect("parameters");
-        let (list, answer) = rest.split_once(')').expect("an end of parameters");
-        assert!(answer.starts_with(" -> Answer\n"));
-        let list = parameters(list).flat_map(|parameter| lent(&parameter));
-        (name.to_string(), list.collect())
+        let (name, list, answer) = signature(declaration);
+        let lent = parts(list, ',').flat_map(|parameter| lent(&parameter));
+        (name, (lent.collect(), answer))
     });
     functions.collect()
+}
+
+/// Name, list of parameters and answer of a function in Rust or in the proved code, after `fn`.
+fn signature(declaration: &str) -> (String, &str, String) {
+    let (name, rest) = declaration.split_once('(').expect("parameters");
+    let (list, rest) = rest.split_once(')').expect("an end of parameters");
+    let answer = rest.trim_start().strip_prefix("-> ").expect("an answer");
+    let end = |letter: char| letter == ';' || letter.is_whitespace();
+    let answer = answer.split(end).next().unwrap_or_default();
+    (name.to_string(), list, answer.to_string())
 }
 
 /// A parameter of the proved code as C sees it: a slice such as `packet: &[u8]` is a pointer and its length.
@@ -203,13 +263,101 @@ fn lent(parameter: &str) -> Vec<String> {
     vec![pointer, format!("{name}_len: usize")]
 }
 
-/// The fields of a struct `Answer`, in order.
-fn answer_fields(code: &str) -> Vec<String> {
-    between(code, "pub struct Answer {", "}")
+/// Tag, name and unit of an item, the unit as the header has it.
+type Item = (u64, String, String);
+
+fn item([tag, name, unit]: [&str; 3]) -> Item {
+    (number(tag), name.to_string(), unit.to_string())
+}
+
+/// The first three parts of a line.
+fn three<'a>(mut parts: impl Iterator<Item = &'a str>) -> [&'a str; 3] {
+    from_fn(|_| parts.next().expect("tag, name and unit"))
+}
+
+/// The items of the header's list.
+fn header_items() -> Vec<Item> {
+    let listed = HEADER
         .lines()
-        .filter_map(|line| line.trim().strip_prefix("pub "))
-        .map(|field| field.trim_end_matches(',').to_string())
+        .filter_map(|line| line.trim_start().strip_prefix("ITEM("));
+    let items = listed.map(|line| {
+        let [tag, name, unit] = three(line.split('"'));
+        item([tag.trim_end_matches(", "), name, between(unit, ", ", ")")])
+    });
+    items.collect()
+}
+
+/// The items as crate and archive have them.
+fn crate_items() -> Vec<Item> {
+    let items = catalogue::all();
+    items
+        .map(|item| (item.tag, item.name.to_string(), unit_name(item.unit)))
         .collect()
+}
+
+/// The items as ST 0601 has them.
+fn named_items() -> Vec<Item> {
+    let items = NAMES.lines().skip(1).map(|line| {
+        let [tag, name, unit] = three(line.split('\t'));
+        item([tag, name, &unit_name(unit_of(unit))])
+    });
+    items.collect()
+}
+
+/// The unit by its name in the header.
+fn unit_name(unit: Option<Unit>) -> String {
+    unit.map_or("NONE".to_string(), |unit| upper_snake(&format!("{unit:?}")))
+}
+
+/// The unit by the sign that the table of names has for it; what is only a code has none.
+fn unit_of(sign: &str) -> Option<Unit> {
+    match sign {
+        "deg" => Some(Unit::Degree),
+        "m" => Some(Unit::Metre),
+        "m/s" => Some(Unit::MetrePerSecond),
+        "mbar" => Some(Unit::Millibar),
+        "%" => Some(Unit::Percent),
+        "degC" => Some(Unit::Celsius),
+        "us" => Some(Unit::Microsecond),
+        "none" | "code" => None,
+        other => panic!("{other} is no unit of the catalogue"),
+    }
+}
+
+/// Each scaled item by its tag, in the words that the header's table has for it.
+type Scales = BTreeMap<u64, String>;
+
+fn header_scales() -> Scales {
+    let lines = HEADER
+        .lines()
+        .filter_map(|line| line.strip_prefix(" *     ")?.split_once("  "));
+    let scales = lines.filter(|(_, scale)| scale.contains("signed "));
+    let items = scales.flat_map(|(tags, scale)| {
+        let words = scale.split_whitespace().collect::<Vec<_>>().join(" ");
+        parts(tags, ',').map(move |tag| (number(&tag), words.clone()))
+    });
+    items.collect()
+}
+
+/// The words for an item of the catalogue, if it has a scale.
+fn scale(item: catalogue::Item) -> Option<String> {
+    let Range { low, high } = item.range?;
+    let stored = match item.stored {
+        Stored::Unsigned { width } => format!("unsigned {width}"),
+        Stored::Signed { width } => format!("signed {width}"),
+        Stored::Text => return None,
+    };
+    let (whole, unit) = match item.unit? {
+        Unit::Degree => (1e7, "degrees"),
+        Unit::Metre => (1e3, "m"),
+        Unit::MetrePerSecond => (1e3, "m/s"),
+        Unit::Millibar => (1e3, "mbar"),
+        Unit::Percent => (1e3, "percent"),
+        Unit::Celsius => (1e3, "degrees C"),
+        Unit::Microsecond => return None,
+    };
+    let (low, high) = (low as f64 / whole, high as f64 / whole);
+    Some(format!("{stored} {low} to {high} {unit}"))
 }
 
 /// The number that ends a line of the code, after `start`.
@@ -235,23 +383,37 @@ fn reasons_go_by_their_numbers() {
 }
 
 #[test]
-fn answer_has_the_same_fields_in_the_same_order() {
-    let code = without_comments(HEADER);
-    let header: Vec<String> = between(&code, "typedef struct oyk_answer {", "}")
-        .split_terminator(';')
-        .filter(|field| !field.trim().is_empty())
-        .map(in_rust)
-        .collect();
-    assert_eq!(header, answer_fields(RAW));
-    assert_eq!(header, answer_fields(PROVED));
-    assert_eq!(header.len(), 7);
+fn structs_agree() {
+    assert_eq!(header_structs(), structs(RAW));
+    assert_eq!(header_structs(), structs(PROVED));
+    assert_eq!(header_structs().len(), 12);
 }
 
 #[test]
 fn functions_agree() {
     assert_eq!(header_functions(), raw_functions());
     assert_eq!(header_functions(), proved_functions());
-    assert_eq!(header_functions().len(), 11);
+    assert_eq!(header_functions().len(), 15);
+}
+
+#[test]
+fn versions_agree() {
+    assert_eq!(number_after("#define OYK_VERSION ", HEADER), VERSION);
+    assert_eq!(version(), VERSION);
+}
+
+#[test]
+fn items_agree() {
+    assert_eq!(header_items(), crate_items());
+    assert_eq!(header_items(), named_items());
+    assert_eq!(header_items().len(), 64);
+}
+
+#[test]
+fn scales_agree() {
+    let scaled = catalogue::all().filter_map(|item| Some((item.tag, scale(item)?)));
+    assert_eq!(header_scales(), scaled.collect());
+    assert_eq!(header_scales().len(), 52);
 }
 
 #[test]

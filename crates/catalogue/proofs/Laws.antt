@@ -17,10 +17,11 @@ use Rattle.base.specs.Every.{all, allBelow}
 use Rattle.base.proofs.Every.{all-below, both-left, both-right}
 use Rattle.tagset.specs.Sets.{holds, countBelow}
 use Rattle.tagset.proofs.Laws.{Words, holds-none}
-use Rattle.catalogue.specs.Items.{Group, groups, member, itemIn, itemOf}
+use Rattle.catalogue.specs.Items.{Group, groups, member, inGroups, itemIn, itemOf, unitOf}
 use Rattle.catalogue.specs.Rows.{rowsFrom, rows, entryAt, allTags, itemBy}
 use Rattle.catalogue.specs.declared.Entry.{Entry}
 use Rattle.catalogue.specs.declared.Found.the-variants.{Known, Absent}
+use Rattle.catalogue.specs.declared.Unit.the-variants.{None}
 use Rattle.catalogue.proofs.Same.{sameFound, same-found}
 
 -- no tag from 128 on is in any group
@@ -38,15 +39,19 @@ not-member t (u ∷ ts) e h =
     let k : u < 128 = ltb-true u 128 (both-left (ltb u 128) _ e) in
     rw (ne-eqb t u (λ q. omega arith)) (not-member t ts (both-right (ltb u 128) _ e) h)
 
-absent-in : (gs : List Group) (t : ℕ) → all below128 gs ≡ true → 128 ≤ t → itemIn gs t ≡ Absent
-unfolding itemIn below128
-absent-in [] t e h = refl
-absent-in (g ∷ gs) t e h =
-    rw (not-member t (g .tags) (both-left (below128 g) _ e) h) (absent-in gs t (both-right (below128 g) _ e) h)
+none-in : {A : Type 0} (none : A) (say : Group → A) (gs : List Group) (t : ℕ) → all below128 gs ≡ true → 128 ≤ t → inGroups none say gs t ≡ none
+unfolding below128
+none-in none say [] t e h = refl
+none-in none say (g ∷ gs) t e h =
+    rw (not-member t (g .tags) (both-left (below128 g) _ e) h) (none-in none say gs t (both-right (below128 g) _ e) h)
 
 pub item-beyond : (t : ℕ) → 128 ≤ t → itemOf t ≡ Absent
-unfolding itemOf
-item-beyond t h = absent-in groups t groups-below h
+unfolding itemOf itemIn
+item-beyond t h = none-in Absent _ groups t groups-below h
+
+pub unit-beyond : (t : ℕ) → 128 ≤ t → unitOf t ≡ None
+unfolding unitOf
+unit-beyond t h = none-in None _ groups t groups-below h
 
 -- a whole number of 64 bits
 unfoldable pub small : ℤ → Bool

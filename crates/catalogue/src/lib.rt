@@ -33,6 +33,18 @@ pub enum Found {
     Absent,
 }
 
+// What a value in house units counts. None for texts and for numbers whose code is all there is; item 2's code counts microseconds.
+pub enum Unit {
+    None,
+    Degree,
+    Metre,
+    MetrePerSecond,
+    Millibar,
+    Percent,
+    Celsius,
+    Microsecond,
+}
+
 // How a value is stored: as text, or as a number of so many bytes, whose lowest code is a mark or not.
 pub enum Shape {
     Text,

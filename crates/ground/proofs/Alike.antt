@@ -9,15 +9,16 @@ use lib.IntN.{pos, negℤ}
 use Rattle.catalogue.specs.Items.{Group, groups, member, itemIn, itemOf}
 use Rattle.catalogue.specs.declared.Found.the-variants.{Known}
 use Rattle.catalogue.specs.declared.Sign.the-variants.{Unsigned, Marked}
+use Rattle.catalogue.specs.declared.Unit.the-variants.{Degree, Metre}
 use Rattle.scale.specs.Scales.{scaled}
 use Rattle.ground.specs.code.Located.{itemWith, Like}
 
 -- the groups, by their scales alone
 abbrev height : Group
-height = record { tags = []; width = 2; sign = Unsigned; low = negℤ (pos 900000); high = pos 19000000 }
+height = record { unit = Metre; tags = []; width = 2; sign = Unsigned; low = negℤ (pos 900000); high = pos 19000000 }
 
 abbrev signed : ℕ → ℕ → Group
-signed width high = record { tags = []; width = width; sign = Marked; low = negℤ (pos high); high = pos high }
+signed width high = record { unit = Degree; tags = []; width = width; sign = Marked; low = negℤ (pos high); high = pos high }
 
 abbrev latitude : Group
 latitude = signed 4 900000000

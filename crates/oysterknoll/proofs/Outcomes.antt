@@ -8,8 +8,8 @@ use Rattle.oysterknoll.proofs.oyk_check.Kinds as check-kinds
 use Rattle.oysterknoll.proofs.oyk_check.Reads as check-reads
 use Rattle.oysterknoll.proofs.oyk_read.Kinds as read-kinds
 use Rattle.oysterknoll.proofs.oyk_read.Reads as read-reads
-use Rattle.oysterknoll.proofs.oyk_row.Kinds as row-kinds
-use Rattle.oysterknoll.proofs.oyk_row.Reads as row-reads
+use Rattle.oysterknoll.proofs.oyk_take_row.Kinds as take-row-kinds
+use Rattle.oysterknoll.proofs.oyk_take_row.Reads as take-row-reads
 use Rattle.oysterknoll.proofs.oyk_write.Kinds as write-kinds
 use Rattle.oysterknoll.proofs.oyk_write.Reads as write-reads
 use Rattle.oysterknoll.proofs.oyk_forward.Kinds as forward-kinds
@@ -24,6 +24,14 @@ use Rattle.oysterknoll.proofs.oyk_frame_centre_height.Kinds as frame-ce
 use Rattle.oysterknoll.proofs.oyk_frame_centre_height.Reads as frame-centre-height-reads
 use Rattle.oysterknoll.proofs.oyk_corner.Kinds as corner-kinds
 use Rattle.oysterknoll.proofs.oyk_corner.Reads as corner-reads
+use Rattle.oysterknoll.proofs.oyk_version.Kinds as version-kinds
+use Rattle.oysterknoll.proofs.oyk_version.Reads as version-reads
+use Rattle.oysterknoll.proofs.oyk_start.Kinds as start-kinds
+use Rattle.oysterknoll.proofs.oyk_start.Reads as start-reads
+use Rattle.oysterknoll.proofs.oyk_next.Kinds as next-kinds
+use Rattle.oysterknoll.proofs.oyk_next.Reads as next-reads
+use Rattle.oysterknoll.proofs.oyk_item.Kinds as item-kinds
+use Rattle.oysterknoll.proofs.oyk_item.Reads as item-reads
 use Rattle.oysterknoll.proofs.oyk_list.Kinds as list-kinds
 use Rattle.oysterknoll.proofs.oyk_list.Reads as list-reads
 
@@ -33,8 +41,8 @@ check-determined κs a z z′ e e′ p q = p ∙ sym q
 pub read-determined : Determined 2 read-kinds.ps read-kinds.r read-reads.Post (List ℕ) (λ κs e. e .1 .1 .1 .0 .now)
 read-determined κs a z z′ e e′ p q = (p .0 ∙ sym (q .0), p .1 ∙ sym (q .1))
 
-pub row-determined : Answered 2 row-kinds.ps row-kinds.r row-reads.Post
-row-determined κs a z z′ e e′ p q = p ∙ sym q
+pub take-row-determined : Answered 2 take-row-kinds.ps take-row-kinds.r take-row-reads.Post
+take-row-determined κs a z z′ e e′ p q = p ∙ sym q
 
 pub write-determined : Determined 3 write-kinds.ps write-kinds.r write-reads.Post (List ℕ) (λ κs e. e .1 .1 .1 .1 .1 .0 .now)
 write-determined κs a z z′ e e′ p q = (p .0 ∙ sym (q .0), p .1 ∙ sym (q .1))
@@ -56,6 +64,18 @@ frame-centre-height-determined κs a z z′ e e′ p q = p ∙ sym q
 
 pub corner-determined : Answered 1 corner-kinds.ps corner-kinds.r corner-reads.Post
 corner-determined κs a z z′ e e′ p q = p ∙ sym q
+
+pub version-determined : Answered 0 version-kinds.ps version-kinds.r version-reads.Post
+version-determined κs a z z′ e e′ p q = p ∙ sym q
+
+pub start-determined : Answered 1 start-kinds.ps start-kinds.r start-reads.Post
+start-determined κs a z z′ e e′ p q = p ∙ sym q
+
+pub next-determined : Answered 1 next-kinds.ps next-kinds.r next-reads.Post
+next-determined κs a z z′ e e′ p q = p ∙ sym q
+
+pub item-determined : Answered 0 item-kinds.ps item-kinds.r item-reads.Post
+item-determined κs a z z′ e e′ p q = p ∙ sym q
 
 pub list-determined : Determined 2 list-kinds.ps list-kinds.r list-reads.Post (List ℕ) (λ κs e. e .1 .0 .now)
 list-determined κs a z z′ e e′ p q = (p .0 ∙ sym (q .0), p .1 ∙ sym (q .1))

@@ -1,68 +1,157 @@
--- What an answer says as one struct: document 01's refusal number (0: none), place and tag, then the count or the values, 0 on a refusal.
+-- What an answer says as a struct of C: document 01's refusal in front (number 0: none), and behind it what was asked for, all 0 on a refusal.
 use Prim.Native.Nat.{ℕ}
+use mathlib.Core.Bool.{cond}
+use lib.Dec.{eqb}
 use lib.IntN.{ℤ, pos}
 use Rattle.refusal.specs.Answer.{Answer, given, refused}
-use Rattle.rows.specs.Meaning.{readingKind, markKind, textKind, carriedKind}
+use Rattle.catalogue.specs.Rows.{isSigned}
+use Rattle.catalogue.specs.Shapes.{isMarked}
+use Rattle.catalogue.specs.declared.Sign.{Sign}
+use Rattle.catalogue.specs.declared.Item.{Item}
+use Rattle.catalogue.specs.declared.Unit.{Unit}
+use Rattle.catalogue.specs.declared.Found.{Found}
+use Rattle.catalogue.specs.declared.Found.the-variants.{Known, Absent}
+use Rattle.units.specs.Units.{unitNumber}
+use Rattle.rows.specs.Taken.{partPlace, partLength}
 use Rattle.rows.specs.declared.Filled.{Filled}
-use Rattle.rows.specs.declared.Content.{Content}
-use Rattle.rows.specs.declared.Content.the-variants.{Reading, Mark, Text, Carried}
-use Rattle.rows.specs.declared.Row.{Row}
+use Rattle.rows.specs.declared.RowWords.{RowWords}
 use Rattle.scale.specs.declared.House.{House}
 use Rattle.scale.specs.declared.Code.{Code}
 use Rattle.packet.specs.declared.Accepted.{Accepted}
 use Rattle.writer.specs.declared.Written.{Written}
+use Rattle.walker.specs.declared.Seen.{Seen}
+use Rattle.walker.specs.declared.Seen.the-variants.{Item as here, NoMore}
 use Rattle.ground.specs.Ground.{HeightSeen, noHeight, overEllipsoid, overSeaLevel, CornerSeen, noCorner, offTheEarth, on}
-use Rattle.oysterknoll.specs.declared.Answer.{Answer as Struct}
+use Rattle.oysterknoll.specs.declared.Refusal.{Refusal}
+use Rattle.oysterknoll.specs.declared.Row.{Row}
+use Rattle.oysterknoll.specs.declared.CountAnswer.{CountAnswer}
+use Rattle.oysterknoll.specs.declared.SizeAnswer.{SizeAnswer}
+use Rattle.oysterknoll.specs.declared.RowAnswer.{RowAnswer}
+use Rattle.oysterknoll.specs.declared.StartAnswer.{StartAnswer}
+use Rattle.oysterknoll.specs.declared.NextAnswer.{NextAnswer}
+use Rattle.oysterknoll.specs.declared.ValueAnswer.{ValueAnswer}
+use Rattle.oysterknoll.specs.declared.CodeAnswer.{CodeAnswer}
+use Rattle.oysterknoll.specs.declared.HeightAnswer.{HeightAnswer}
+use Rattle.oysterknoll.specs.declared.CornerAnswer.{CornerAnswer}
+use Rattle.oysterknoll.specs.declared.ItemAnswer.{ItemAnswer}
 
-abbrev pub refusing : ℕ → ℕ → ℕ → Struct
-refusing n place tag = record { refusal = n; place = place; tag = tag; kind = 0; count = 0; value = pos 0; second = pos 0 }
+-- of header and archive
+abbrev pub version : ℕ
+version = 1
 
-abbrev pub counting : ℕ → Struct
-counting n = record { refusal = 0; place = 0; tag = 0; kind = 0; count = n; value = pos 0; second = pos 0 }
+abbrev pub refusing : ℕ → ℕ → ℕ → Refusal
+refusing n place tag = record { number = n; place = place; tag = tag }
 
-abbrev pub measuring : ℕ → ℤ → ℤ → Struct
-measuring kind v w = record { refusal = 0; place = 0; tag = 0; kind = kind; count = 0; value = v; second = w }
+abbrev pub nothing : Refusal
+nothing = refusing 0 0 0
 
-abbrev pub saying : {A : Type 0} → (A → Struct) → Answer A → Struct
-saying say (given a) = say a
-saying say (refused n place tag) = refusing n place tag
+-- what is given, said with nothing refused in front; a refusal, said of an answer that is else 0
+abbrev pub saying : {A S : Type 0} → (A → S) → (Refusal → S) → Answer A → S
+saying say refuse (given a) = say a
+saying say refuse (refused n place tag) = refuse (refusing n place tag)
 
-abbrev pub items : Accepted → Struct
-items a = counting (a .count)
+-- how many items, how many rows
+abbrev pub counting : Refusal → ℕ → CountAnswer
+counting r n = record { refusal = r; count = n }
 
-abbrev pub filling : Filled → Struct
-filling f = counting (f .count)
+abbrev pub itemsAnswer : Answer Accepted → CountAnswer
+itemsAnswer = saying (λ a. counting nothing (a .count)) (λ r. counting r 0)
 
-abbrev pub writing : Written → Struct
-writing w = counting (w .size)
+abbrev pub rowsAnswer : Answer Filled → CountAnswer
+rowsAnswer = saying (λ f. counting nothing (f .count)) (λ r. counting r 0)
 
-abbrev pub valuing : House → Struct
-valuing h = measuring 0 (h .value) (pos 0)
+-- how many bytes of a packet, how many of a listing
+abbrev pub sizing : Refusal → ℕ → SizeAnswer
+sizing r n = record { refusal = r; size = n }
 
-abbrev pub coding : Code → Struct
-coding c = counting (c .code)
+abbrev pub bytesAnswer : Answer Written → SizeAnswer
+bytesAnswer = saying (λ w. sizing nothing (w .size)) (λ r. sizing r 0)
+
+abbrev pub linesAnswer : Answer ℕ → SizeAnswer
+linesAnswer = saying (sizing nothing) (λ r. sizing r 0)
+
+-- a row by its words, the fourth of them taken apart
+abbrev pub rowing : ℕ → ℕ → ℕ → ℕ → ℕ → Row
+rowing tag kind code place length = record { tag = tag; kind = kind; code = code; place = place; length = length }
+
+abbrev pub telling : Refusal → Row → RowAnswer
+telling r row = record { refusal = r; row = row }
+
+abbrev pub rowAnswer : Answer RowWords → RowAnswer
+rowAnswer =
+    saying (λ r. telling nothing (rowing (r .tag) (r .kind) (r .code) (partPlace (r .part)) (partLength (r .part))))
+    (λ r. telling r (rowing 0 0 0 0 0))
+
+-- where the items begin
+abbrev pub starting : Refusal → ℕ → StartAnswer
+starting r place = record { refusal = r; place = place }
+
+abbrev pub startAnswer : Answer Accepted → StartAnswer
+startAnswer = saying (λ a. starting nothing (a .from)) (λ r. starting r 0)
+
+-- an item and the place after it; "past the last item it answers that there are no more"
+abbrev pub stepping : Row → ℕ → NextAnswer
+stepping row next = record { row = row; next = next }
+
+abbrev pub nextAnswer : ℕ → Seen → NextAnswer
+nextAnswer place (here s) = stepping (rowing (s .tag) (s .kind) (s .code) (s .place) (s .length)) (s .next)
+nextAnswer place NoMore = stepping (rowing 0 0 0 0 0) place
+
+-- conversions
+abbrev pub valuing : Refusal → ℤ → ValueAnswer
+valuing r v = record { refusal = r; value = v }
+
+abbrev pub valueAnswer : Answer House → ValueAnswer
+valueAnswer = saying (λ h. valuing nothing (h .value)) (λ r. valuing r (pos 0))
+
+abbrev pub coding : Refusal → ℕ → CodeAnswer
+coding r code = record { refusal = r; code = code }
+
+abbrev pub codeAnswer : Answer Code → CodeAnswer
+codeAnswer = saying (λ c. coding nothing (c .code)) (λ r. coding r 0)
 
 -- 0 missing, 1 over the ellipsoid, 2 over mean sea level
-abbrev pub heightAnswer : HeightSeen → Struct
-heightAnswer noHeight = measuring 0 (pos 0) (pos 0)
-heightAnswer (overEllipsoid mm) = measuring 1 mm (pos 0)
-heightAnswer (overSeaLevel mm) = measuring 2 mm (pos 0)
+abbrev pub measuring : Refusal → ℕ → ℤ → HeightAnswer
+measuring r kind mm = record { refusal = r; kind = kind; height = mm }
+
+abbrev pub heightSeen : HeightSeen → HeightAnswer
+heightSeen noHeight = measuring nothing 0 (pos 0)
+heightSeen (overEllipsoid mm) = measuring nothing 1 mm
+heightSeen (overSeaLevel mm) = measuring nothing 2 mm
+
+abbrev pub heightAnswer : Answer HeightSeen → HeightAnswer
+heightAnswer = saying heightSeen (λ r. measuring r 0 (pos 0))
 
 -- 0 missing, 1 a point, 2 off the Earth
-abbrev pub cornerAnswer : CornerSeen → Struct
-cornerAnswer noCorner = measuring 0 (pos 0) (pos 0)
-cornerAnswer (on latitude longitude) = measuring 1 latitude longitude
-cornerAnswer offTheEarth = measuring 2 (pos 0) (pos 0)
+abbrev pub pointing : Refusal → ℕ → ℤ → ℤ → CornerAnswer
+pointing r kind latitude longitude = record { refusal = r; kind = kind; latitude = latitude; longitude = longitude }
 
--- a row: its kind by document 01's number, with the code, or the place and the length
-abbrev pub holding : ℕ → ℕ → ℕ → ℕ → Struct
-holding tag kind count place = record { refusal = 0; place = place; tag = tag; kind = kind; count = count; value = pos 0; second = pos 0 }
+abbrev pub cornerSeen : CornerSeen → CornerAnswer
+cornerSeen noCorner = pointing nothing 0 (pos 0) (pos 0)
+cornerSeen (on latitude longitude) = pointing nothing 1 latitude longitude
+cornerSeen offTheEarth = pointing nothing 2 (pos 0) (pos 0)
 
-abbrev pub contentAnswer : ℕ → Content → Struct
-contentAnswer tag (Reading code) = holding tag readingKind code 0
-contentAnswer tag Mark = holding tag markKind 0 0
-contentAnswer tag (Text part) = holding tag textKind (part .length) (part .place)
-contentAnswer tag (Carried part) = holding tag carriedKind (part .length) (part .place)
+abbrev pub cornerAnswer : Answer CornerSeen → CornerAnswer
+cornerAnswer = saying cornerSeen (λ r. pointing r 0 (pos 0) (pos 0))
 
-abbrev pub rowAnswer : Row → Struct
-rowAnswer r = contentAnswer (r .tag) (r .content)
+-- how the catalogue stores an item: 0 not at all, 1 unsigned, 2 signed, 3 text
+abbrev pub storedAs : ℕ → Sign → ℕ
+storedAs width sign = cond (eqb width 0) 3 (cond (isSigned sign) 2 1)
+
+abbrev pub markedAs : Sign → ℕ
+markedAs sign = cond (isMarked sign) 1 0
+
+abbrev pub listing : Item → ℕ → ItemAnswer
+listing i unit =
+    record {
+      stored = storedAs (i .width) (i .sign);
+      width = i .width;
+      low = i .low;
+      high = i .high;
+      unit = unit;
+      marked = markedAs (i .sign);
+    }
+
+abbrev pub itemAnswer : Found → Unit → ItemAnswer
+itemAnswer (Known i) unit = listing i (unitNumber unit)
+itemAnswer Absent unit = record { stored = 0; width = 0; low = pos 0; high = pos 0; unit = 0; marked = 0 }

@@ -15,6 +15,8 @@ use Rattle.rows.proofs.tag_shown.Kinds as tag-shown-kinds
 use Rattle.rows.proofs.tag_shown.Reads as tag-shown-reads
 use Rattle.rows.proofs.row_at.Kinds as row-at-kinds
 use Rattle.rows.proofs.row_at.Reads as row-at-reads
+use Rattle.rows.proofs.content_of.Kinds as content-of-kinds
+use Rattle.rows.proofs.content_of.Reads as content-of-reads
 use Rattle.rows.proofs.take_row.Kinds as take-row-kinds
 use Rattle.rows.proofs.take_row.Reads as take-row-reads
 
@@ -35,6 +37,9 @@ tag-shown-determined κs a z z′ e e′ p q = p ∙ sym q
 
 pub row-at-determined : Answered 1 row-at-kinds.ps row-at-kinds.r row-at-reads.Post
 row-at-determined κs a z z′ e e′ p q = p ∙ sym q
+
+pub content-of-determined : Answered 0 content-of-kinds.ps content-of-kinds.r content-of-reads.Post
+content-of-determined κs a z z′ e e′ p q = p ∙ sym q
 
 pub take-row-determined : Answered 2 take-row-kinds.ps take-row-kinds.r take-row-reads.Post
 take-row-determined κs a z z′ e e′ p q = taken-apart z z′ (p ∙ sym q)

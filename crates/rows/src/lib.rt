@@ -10,8 +10,8 @@ ghost use mathlib.Core.Bool.{cond};
 ghost use Rattle.tagset.specs.Sets.{holds};
 ghost use Rattle.catalogue.specs.code.Column.{shapeIn};
 ghost use Rattle.catalogue.specs.declared.Shape.{Shape};
-ghost use Rattle.rows.specs.Meaning.{kindFor, markCode};
-ghost use Rattle.rows.specs.Taken.{rowGood, contentGood, partGood, codeGood, countGood, tagShown, rowAt, partOf, rowSays, contentOf, rowTaken};
+ghost use Rattle.rows.specs.Meaning.{kindFor, markCode, saidBy};
+ghost use Rattle.rows.specs.Taken.{rowGood, contentGood, partGood, codeGood, countGood, tagShown, rowAt, partOf, contentOf, rowTaken};
 ghost use Rattle.rows.specs.Taken.{rowTakenAt, takenSaid};
 use catalogue::Shape;
 use refusal::Reason;
@@ -234,13 +234,12 @@ fn part_of(part: u64) -> Part
     }
 }
 
-fn content_of(row: RowWords) -> Content
-    ensures { λ r. ⌜ r ≡ contentOf (rowSays row) ⌝ }
+// What a row holds, by its kind, its code, and where its value stands.
+pub fn content_of(kind: u64, code: u64, part: Part) -> Content
+    ensures { λ r. ⌜ r ≡ contentOf (saidBy kind code (part .length) part) ⌝ }
 {
-    let kind = row.kind;
-    let part = part_of(row.part);
     if kind == READING {
-        return Content::Reading(row.code);
+        return Content::Reading(code);
     }
     if kind == MARK {
         return Content::Mark;
@@ -255,9 +254,10 @@ fn single(shape: Shape, room: usize, n: usize, row: RowWords) -> Taken
     ensures { λ r. ⌜ takenSaid r ≡ rowTaken shape room n row ⌝ }
 {
     if is_good_row(shape, room, row) {
+        let part = part_of(row.part);
         return Taken::Is(Row {
             tag: row.tag,
-            content: content_of(row),
+            content: content_of(row.kind, row.code, part),
         });
     }
     refused(Reason::RowBad, n, tag_shown(row.tag))

@@ -1,10 +1,10 @@
--- The walker hands out the reader's rows: from the start to "no more" just those of the accepted packet, in their order, each value being
--- the bytes at the row's place; and where there are no more there are none again.
+-- The walker hands out the reader's rows: from the start to "no more" just those of the accepted packet, in their order, each where it
+-- stands, its value being the bytes at the row's place; and where there are no more there are none again.
 -- Assumes nothing.
 use Prim.Native.Nat.{ℕ, zero, suc, _+_, _*_, _%_, _^_, _<_, _≤_}
 use native.Mathlib.Omega.{arith}
 use native.Mathlib.Nat.{mod-eq-of-lt, pow-le-pow-right}
-use mathlib.Core.Path.{_≡_, refl, sym, ap, ap₂, _∙_}
+use mathlib.Core.Path.{_≡_, refl, sym, ap₂, _∙_}
 use mathlib.Core.Bool.{Bool, _&&_}
 use lib.Dec.{eqb}
 use mathlib.Core.List.{List, [], _∷_}
@@ -24,61 +24,77 @@ use Rattle.knowing.specs.Good.{good}
 use Rattle.catalogue.proofs.Columns.{number-width as width-at-most}
 use Rattle.catalogue.specs.declared.Shape.{Shape}
 use Rattle.catalogue.specs.declared.Shape.the-variants.{Text, Number, Absent}
-use Rattle.rows.specs.Meaning.{shapeFor, markCode}
+use Rattle.rows.specs.Meaning.{shapeFor, markCode, seenAs, meaningOf, kindOf, codeOf}
 use Rattle.rows.specs.declared.RowWords.{RowWords}
-use Rattle.rows.specs.Taken.{partOf, rowSays, contentOf}
-use Rattle.rows.specs.declared.Content.the-variants as content
-use Rattle.rows.specs.declared.Row.{Row}
+use Rattle.rows.specs.Taken.{partPlace, partLength, rowSays, contentOf}
 use Rattle.packet.specs.Pieces.{Item, pieces, walk, before, readItem}
 use Rattle.packet.specs.Said.{headerAt}
 use Rattle.packet.specs.code.Headers.{itemBy}
 use Rattle.packet.specs.Verdict.{verdict, received, checked, startOf}
-use Rattle.packet.specs.Rows.{rowBy, rowOf, rowsOf, rowsIn, bytesAt, Filled, readAnswer, readTable}
+use Rattle.packet.specs.Rows.{rowOf, rowsOf, rowsIn, bytesAt, Filled, readAnswer, readTable}
 use Rattle.packet.specs.declared.Header.{Header}
 use Rattle.packet.proofs.Walks.{walk-end, walk-full, walk-refused, walk-item, header-lies}
 use Rattle.packet.proofs.Accepting.{accepting}
 use Rattle.refusal.proofs.Answers.{passed}
 use Rattle.laws.proofs.Sent.{Lies, lies-bytes, bytes-back, SizedFor, number-width, accepted-lie, accepted-sized}
 use Rattle.laws.proofs.Tables.{has-received}
-use Rattle.walker.specs.Steps.{contentIn, headerValue, rowIn, foundBy, partBy, nextBy, foundAt, partAt, nextAt, startPlace}
-use Rattle.walker.specs.declared.Found.{Found}
-use Rattle.walker.specs.declared.Found.the-variants as found
+use Rattle.walker.specs.Steps.{headerValue, headerPart, seenIn, rowSeen, seenBy, partBy, nextBy, seenAt, partAt, nextAt, startPlace}
+use Rattle.walker.specs.declared.Standing.{Standing}
+use Rattle.walker.specs.declared.Seen.{Seen}
+use Rattle.walker.specs.declared.Seen.the-variants as seen
 
 -- an item as it is handed out
 pub record Handed : Type 0 where
-  pub row : Row
+  pub item : Standing
   pub value : List ℕ
 
-abbrev pub onFound : Found → List ℕ → List Handed → List Handed
-onFound (found.Item r) v rest = record { row = r; value = v } ∷ rest
-onFound found.NoMore v rest = []
+abbrev pub onSeen : Seen → List ℕ → List Handed → List Handed
+onSeen (seen.Item s) v rest = record { item = s; value = v } ∷ rest
+onSeen seen.NoMore v rest = []
 
 -- what is handed out from a place on, in at most n steps
 unfoldable pub handed : ℕ → TagSet → List ℕ → ℕ → List Handed
 handed zero K p at = []
-handed (suc n) K p at = onFound (foundAt K p at) (partAt p at) (handed n K p (nextAt p at))
+handed (suc n) K p at = onSeen (seenAt K p at) (partAt p at) (handed n K p (nextAt p at))
 
--- a row of the reader's, taken out singly, with the bytes at its place
+-- a row of the reader's where its value stands, the place after it among the rest
+abbrev pub standsAs : RowWords → Standing
+standsAs r =
+    record {
+      tag = r .tag;
+      kind = r .kind;
+      code = r .code;
+      place = partPlace (r .part);
+      length = partLength (r .part);
+      next = partPlace (r .part) + partLength (r .part);
+    }
+
+-- with the bytes at its place
 abbrev pub handedRow : TagSet → List ℕ → RowWords → Handed
-handedRow K p r = record { row = record { tag = r .tag; content = contentOf (rowSays r) }; value = bytesAt p r }
+handedRow K p r = record { item = standsAs r; value = bytesAt p r }
+
+-- taken out singly it is what the row says
+pub handed-row : (r : RowWords) → rowSeen (standsAs r) ≡ record { tag = r .tag; content = contentOf (rowSays r) }
+unfolding rowSeen
+handed-row r = refl
 
 unfoldable pub handedRows : TagSet → List ℕ → List RowWords → List Handed
 handedRows K p [] = []
 handedRows K p (r ∷ rs) = handedRow K p r ∷ handedRows K p rs
 
 -- where there are no more, there are none again, and no bytes
-pub none-again : (K : TagSet) (p : List ℕ) (at : ℕ) → foundAt K p at ≡ found.NoMore → (nextAt p at ≡ at) × (partAt p at ≡ [])
-unfolding foundAt nextAt partAt
+pub none-again : (K : TagSet) (p : List ℕ) (at : ℕ) → seenAt K p at ≡ seen.NoMore → (nextAt p at ≡ at) × (partAt p at ≡ [])
+unfolding seenAt nextAt partAt
 none-again K p at e = go (headerAt p at) refl e
   where
-    go : (a : Answer Header) → headerAt p at ≡ a → foundBy K p a ≡ found.NoMore → (nextBy at a ≡ at) × (partBy p a ≡ [])
+    go : (a : Answer Header) → headerAt p at ≡ a → seenBy K p a ≡ seen.NoMore → (nextBy at a ≡ at) × (partBy p a ≡ [])
     go (given h) f g = never (cc)
     go (refused n b t) f g = (refl, refl)
 
 module _ (K : TagSet) (p : List ℕ) where
   -- there are no more where the packet ends
-  pub end-none : (at : ℕ) → length p ≤ at → foundAt K p at ≡ found.NoMore
-  unfolding foundAt headerAt readItem readTag
+  pub end-none : (at : ℕ) → length p ≤ at → seenAt K p at ≡ seen.NoMore
+  unfolding seenAt headerAt readItem readTag
   end-none at h = rw (nil-at p at h)
 
   hands-none : (n at : ℕ) → length p ≤ at → handed n K p at ≡ []
@@ -112,23 +128,36 @@ module _ (K : TagSet) (p : List ℕ) where
               (omega arith) {i = length (headerValue p h)} {j = 8} (omega (arith, size, few)),
         )
 
-    same-part : record { place = h .place; length = h .size } ≡ partOf (h .place * 65536 + length (headerValue p h))
-    same-part = rw (digits-div (h .place) (l .short), digits-mod (h .place) (l .short), long)
+    same-place : partPlace (h .place * 65536 + length (headerValue p h)) ≡ h .place
+    same-place = digits-div (h .place) (l .short)
 
-    same-content : (x : Shape) → shapeFor (holds K) (h .tag) ≡ x
-        → contentIn x (valueOf (headerValue p h) % 2 ^ 64) (record { place = h .place; length = h .size }) ≡ contentOf (rowSays (rowBy x (itemBy p h)))
-    same-content (Number w m) e =
-        let c : valueOf (headerValue p h) % 2 ^ 64 ≡ valueOf (headerValue p h) = mod-eq-of-lt (fits w m e) in
-        byBool (m && eqb (valueOf (headerValue p h)) (markCode w)) (λ b. rw (c, b)) (λ b. rw (c, b))
-    same-content Text e = ap content.Text same-part
-    same-content Absent e = ap content.Carried same-part
+    same-size : partLength (h .place * 65536 + length (headerValue p h)) ≡ h .size
+    same-size = digits-mod (h .place) (l .short) ∙ long
 
-    same-item : _≡_ {A = Handed} (record { row = rowIn K p h; value = headerValue p h }) (handedRow K p (rowOf (holds K) (itemBy p h)))
-    unfolding rowIn rowOf
+    -- kind and code do not ask where the value stands
+    same-kind : (x : Shape) → shapeFor (holds K) (h .tag) ≡ x
+        → kindOf (seenAs x (valueOf (headerValue p h) % 2 ^ 64) (h .size) (headerPart h)) ≡ kindOf (meaningOf x (headerValue p h))
+    same-kind (Number w m) e =
+        rw (mod-eq-of-lt (fits w m e)) (byBool (m && eqb (valueOf (headerValue p h)) (markCode w)) (λ b. rw b) (λ b. rw b))
+    same-kind Text e = refl
+    same-kind Absent e = refl
+
+    same-code : (x : Shape) → shapeFor (holds K) (h .tag) ≡ x
+        → codeOf (seenAs x (valueOf (headerValue p h) % 2 ^ 64) (h .size) (headerPart h)) ≡ codeOf (meaningOf x (headerValue p h))
+    same-code (Number w m) e =
+        rw (mod-eq-of-lt (fits w m e)) (byBool (m && eqb (valueOf (headerValue p h)) (markCode w)) (λ b. rw b) (λ b. rw b))
+    same-code Text e = refl
+    same-code Absent e = refl
+
+    same-item : _≡_ {A = Handed} (record { item = seenIn K p h; value = headerValue p h }) (handedRow K p (rowOf (holds K) (itemBy p h)))
+    unfolding seenIn rowOf
     same-item =
-        let c = same-content (shapeFor (holds K) (h .tag)) refl in
+        let k = same-kind (shapeFor (holds K) (h .tag)) refl in
+        let c = same-code (shapeFor (holds K) (h .tag)) refl in
+        let a = sym same-place in
+        let n = sym same-size in
         let v = sym (bytes-back (holds K) p (itemBy p h) l) in
-        λ i. record { row = record { tag = h .tag; content = c i }; value = v i }
+        λ i. record { item = record { tag = h .tag; kind = k i; code = c i; place = a i; length = n i; next = a i + n i }; value = v i }
 
   hands-end : (n at : ℕ) (is : List Item) → length p ≤ at → walk n at (drop at p) ≡ given is → handed (suc n) K p at ≡ handedRows K p (rowsOf (holds K) is)
   unfolding handedRows rowsOf
@@ -148,7 +177,7 @@ module _ (K : TagSet) (p : List ℕ) where
         → walk n (i .place + i .size) (drop (i .place + i .size) p) ≡ a → before (itemBy p i) a ≡ given is → Each (Lies p) is
         → Each (SizedFor (holds K)) (pieces is)
         → handed (suc (suc n)) K p at ≡ handedRows K p (rowsOf (holds K) is)
-    unfolding handed foundAt partAt nextAt handedRows rowsOf
+    unfolding handed seenAt partAt nextAt handedRows rowsOf
     hands-one n at is i others e (refused r b g) f q l s = never (cc)
     hands-one n at is i others e (given js) f q l s =
         let same : itemBy p i ∷ js ≡ is = cc in

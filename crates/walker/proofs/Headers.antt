@@ -14,16 +14,16 @@ use Rattle.packet.specs.declared.Header.{Header}
 use Rattle.packet.specs.declared.Step.{Step}
 use Rattle.packet.specs.declared.Checked.{Checked}
 use Rattle.packet.proofs.Walks.{header-lies}
-use Rattle.walker.specs.Steps.{foundBy, partBy, nextBy, beginBy, placeBy, foundAt, partAt, nextAt, startPlace}
+use Rattle.walker.specs.Steps.{seenBy, partBy, nextBy, beginBy, placeBy, seenAt, partAt, nextAt, startPlace}
 
 -- what the step at a place said, by the step's own case
 module _ (p : List ℕ) (at : ℕ) (s x : Step) (e : stepSaid s ≡ headerAt p at) (f : s ≡ x) where
   said : headerAt p at ≡ stepSaid x
   said = sym e ∙ ap stepSaid f
 
-  pub found-said : (K : TagSet) → foundBy K p (stepSaid x) ≡ foundAt K p at
-  unfolding foundAt
-  found-said K = ap (foundBy K p) (sym said)
+  pub seen-said : (K : TagSet) → seenBy K p (stepSaid x) ≡ seenAt K p at
+  unfolding seenAt
+  seen-said K = ap (seenBy K p) (sym said)
 
   pub part-said : partBy p (stepSaid x) ≡ partAt p at
   unfolding partAt

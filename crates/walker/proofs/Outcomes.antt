@@ -21,7 +21,7 @@ use Rattle.refusal.specs.declared.Refusal.{Refusal}
 use Rattle.refusal.proofs.Laws.{refusal-apart}
 use Rattle.packet.specs.Verdict.{checked}
 use Rattle.packet.specs.declared.Accepted.{Accepted}
-use Rattle.walker.specs.Steps.{beginBy, beginSaid, placeBy, startPlace}
+use Rattle.walker.specs.Steps.{beginBy, beginSaid, placeBy, startPlace, foundSeen, foundAt}
 use Rattle.tagset.specs.Sets.{knowing}
 use Rattle.walker.specs.Passes.{Starts, Passes}
 use Rattle.walker.specs.declared.Begin.{Begin}
@@ -31,6 +31,10 @@ use Rattle.walker.specs.declared.Walker.{Walker}
 use Rattle.walker.specs.declared.Started.{Started}
 use Rattle.walker.specs.declared.Passed.{Passed}
 use Rattle.walker.proofs.Handed.{end-none}
+use Rattle.walker.proofs.opened.Kinds as opened-kinds
+use Rattle.walker.proofs.opened.Reads as opened-reads
+use Rattle.walker.proofs.seen_at.Kinds as seen-at-kinds
+use Rattle.walker.proofs.seen_at.Reads as seen-at-reads
 use Rattle.walker.proofs.found_at.Kinds as found-at-kinds
 use Rattle.walker.proofs.found_at.Reads as found-at-reads
 use Rattle.walker.proofs.value_at.Kinds as value-at-kinds
@@ -41,6 +45,9 @@ use Rattle.walker.proofs.start as start
 use Rattle.walker.proofs.next as next
 use Rattle.walker.proofs.value_number.Kinds as value-number-kinds
 use Rattle.walker.proofs.value_number.Reads as value-number-reads
+
+pub seen-at-determined : Answered 1 seen-at-kinds.ps seen-at-kinds.r seen-at-reads.Post
+seen-at-determined κs a z z′ e e′ p q = p ∙ sym q
 
 pub found-at-determined : Answered 1 found-at-kinds.ps found-at-kinds.r found-at-reads.Post
 found-at-determined κs a z z′ e e′ p q = p ∙ sym q
@@ -59,6 +66,12 @@ begin-apart Good Good e = refl
 begin-apart Good (Refused s) e = never (cc)
 begin-apart (Refused r) Good e = never (cc)
 begin-apart (Refused r) (Refused s) e = ap Refused (refusal-apart r s e)
+
+pub opened-determined : Answered 1 opened-kinds.ps opened-kinds.r opened-reads.Post
+opened-determined κs a z z′ e e′ p q =
+    let answer = begin-apart (z .answer) (z′ .answer) (p .0 ∙ sym (q .0)) in
+    let at = p .1 ∙ sym (q .1) in
+    λ i. record { answer = answer i; at = at i }
 
 -- the contracts of `start` and `next` are `Starts` and `Passes`
 module _ {M : Type 1} (𝓤 : URA M) (H : Heap 𝓤) (A : Atoms 𝓤) (mem : Memory → SProp 𝓤) (run : Routine → Fun 𝓤) where
@@ -89,4 +102,5 @@ module _ (s : RefT (List ℕ)) (low high : ℕ) (r : Started) (f : Refusal) (p :
   refused-end = ap (λ w. w .at) (p .walker) ∙ at-end (checked (knowing low high) (now s)) refl
 
   pub refused-none : (q : Passed) → Passes (r .walker) q → q .found ≡ NoMore
-  refused-none q h = h .found ∙ end-none _ _ _ (omega (arith, refused-end, ap length (ap (λ w. now (w .packet)) (p .walker))))
+  unfolding foundAt
+  refused-none q h = h .found ∙ ap foundSeen (end-none _ _ _ (omega (arith, refused-end, ap length (ap (λ w. now (w .packet)) (p .walker)))))

@@ -1,8 +1,8 @@
--- What a receiver makes of an item, by its shape and its code.
+-- What a receiver makes of an item, by the shape of its tag and its code.
 -- Assumes nothing.
 use Prim.Native.Nat.{ℕ, _+_, _-_, _%_, _^_}
 use native.Mathlib.Omega.{arith}
-use mathlib.Core.Path.{_≡_, ap, _∙_}
+use mathlib.Core.Path.{_≡_, refl, sym, ap, _∙_}
 use mathlib.Core.Bool.{Bool, true, false, _&&_}
 use mathlib.Core.List.{List}
 use lib.ListN.{take, drop}
@@ -19,13 +19,11 @@ use Rattle.catalogue.specs.declared.Found.the-variants.{Known}
 use Rattle.catalogue.specs.declared.Item.{Item}
 use Rattle.catalogue.specs.declared.Shape.{Shape}
 use Rattle.catalogue.specs.declared.Shape.the-variants.{Text, Number, Absent}
-use Rattle.rows.specs.Meaning.{shapeFor, markCode, kindFor}
+use Rattle.rows.specs.Meaning.{shapeFor, markCode, seenAs, kindOf, codeOf, kindFor}
 use Rattle.rows.specs.declared.Part.{Part}
-use Rattle.rows.specs.declared.Content.{Content}
-use Rattle.rows.specs.declared.Content.the-variants.{Mark, Reading}
-use Rattle.rows.specs.declared.Row.{Row}
 use Rattle.packet.specs.declared.Header.{Header}
-use Rattle.walker.specs.Steps.{contentIn, rowIn}
+use Rattle.walker.specs.Steps.{headerValue, headerPart, meaningIn, codeFor, seenIn}
+use Rattle.walker.specs.declared.Standing.{Standing}
 
 -- the shape of a tag, by whether it is known and by its catalogue item
 module _ (K : TagSet) (t : ℕ) (b : Bool) (e : b ≡ holds K t) where
@@ -44,25 +42,32 @@ text-shape i e = rw (eq-eqb _ _ e)
 pub number-shaped : (i : Item) → (i .width ≡ 0 → ⊥) → Number (i .width) (isMarked (i .sign)) ≡ shapeBy (Known i)
 number-shaped i n = rw (ne-eqb _ _ n)
 
--- a number is a mark or a reading
-module _ (s : Shape) (width : ℕ) (marked : Bool) (e : s ≡ Number width marked) (code : ℕ) (part : Part) (k : ℕ) (f : k ≡ kindFor s code) where
-  abbrev marked-code : Bool
-  marked-code = marked && eqb code (markCode width)
+-- a code and a kind say what is seen, whatever the length and wherever the value stands
+pub number-code : (w : ℕ) (m : Bool) (v : ℕ) → codeFor (Number w m) v ≡ v
+number-code w m v = byBool (m && eqb v (markCode w)) (λ b. rw b) (λ b. rw b)
 
-  kind-is : k ≡ kindFor (Number width marked) code
-  kind-is = f ∙ ap (λ x. kindFor x code) e
+pub code-by : (s x : Shape) (code v : ℕ) → s ≡ x → code ≡ codeFor x v → code ≡ codeFor s v
+code-by s x code v e f = f ∙ sym (ap (λ y. codeFor y v) e)
 
-  pub is-mark : k ≡ 2 → Mark ≡ contentIn s code part
-  is-mark g = rw e (byBool marked-code (λ m. rw m) (λ m. let z : k ≡ 1 = rw m at kind-is in absurd (omega (arith, g, z))))
+code-seen : (s : Shape) (v n : ℕ) (part : Part) → codeFor s v ≡ codeOf (seenAs s v n part)
+code-seen (Number w m) v n part = byBool (m && eqb v (markCode w)) (λ b. rw b) (λ b. rw b)
+code-seen Text v n part = refl
+code-seen Absent v n part = refl
 
-  pub is-reading : (k ≡ 2 → ⊥) → Reading code ≡ contentIn s code part
-  is-reading n = rw e (byBool marked-code (λ m. absurd (n (rw m at kind-is))) (λ m. rw m))
+kind-seen : (s : Shape) (v n : ℕ) (part : Part) → kindFor s (codeFor s v) ≡ kindOf (seenAs s v n part)
+kind-seen (Number w m) v n part = rw (number-code w m v) (byBool (m && eqb v (markCode w)) (λ b. rw b) (λ b. rw b))
+kind-seen Text v n part = refl
+kind-seen Absent v n part = refl
 
-pub row-made : (K : TagSet) (p : List ℕ) (h : Header) (s : Shape) (code : ℕ) (c : Content) → s ≡ shapeFor (holds K) (h .tag)
-    → code ≡ valueOf (take (h .place + h .size - h .place) (drop (h .place) p)) % 2 ^ 64
-    → c ≡ contentIn s code (record { place = h .place; length = h .size }) → _≡_ {A = Row} (record { tag = h .tag; content = c }) (rowIn K p h)
-unfolding rowIn
-row-made K p h s code c e f g =
-    let k : h .place + h .size - h .place ≡ h .size = omega arith in
-    let d : code ≡ valueOf (take (h .size) (drop (h .place) p)) % 2 ^ 64 = f ∙ ap (λ n. valueOf (take n (drop (h .place) p)) % 2 ^ 64) k in
-    rw (g, e, d)
+pub standing-made : (K : TagSet) (p : List ℕ) (h : Header) (s : Shape) (code kind : ℕ) → s ≡ shapeFor (holds K) (h .tag)
+    → code ≡ codeFor s (valueOf (take (h .place + h .size - h .place) (drop (h .place) p)) % 2 ^ 64) → kind ≡ kindFor s code
+    → _≡_ {A = Standing} (record { tag = h .tag; kind = kind; code = code; place = h .place; length = h .size; next = h .place + h .size }) (seenIn K p h)
+unfolding seenIn
+standing-made K p h s code kind e f g =
+    let v : ℕ = valueOf (headerValue p h) % 2 ^ 64 in
+    let size : h .place + h .size - h .place ≡ h .size = omega arith in
+    let d : code ≡ codeFor s v = f ∙ ap (λ n. codeFor s (valueOf (take n (drop (h .place) p)) % 2 ^ 64)) size in
+    let c : code ≡ codeOf (meaningIn K p h) = d ∙ (code-seen s v (h .size) (headerPart h) ∙ ap (λ x. codeOf (seenAs x v (h .size) (headerPart h))) e) in
+    let k : kind ≡ kindOf (meaningIn K p h) =
+    g ∙ (ap (kindFor s) d ∙ (kind-seen s v (h .size) (headerPart h) ∙ ap (λ x. kindOf (seenAs x v (h .size) (headerPart h))) e)) in
+    λ i. record { tag = h .tag; kind = k i; code = c i; place = h .place; length = h .size; next = h .place + h .size }

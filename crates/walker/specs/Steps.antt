@@ -8,38 +8,59 @@ use Rattle.number.specs.Stored.{valueOf}
 use Rattle.tagset.specs.Sets.{holds}
 use Rattle.tagset.specs.declared.TagSet.{TagSet}
 use Rattle.catalogue.specs.declared.Shape.{Shape}
-use Rattle.rows.specs.Meaning.{shapeFor, seenAs}
+use Rattle.rows.specs.Meaning.{Meaning, shapeFor, seenAs, kindOf, codeOf, saidBy}
 use Rattle.rows.specs.Taken.{contentOf}
 use Rattle.rows.specs.declared.Part.{Part}
-use Rattle.rows.specs.declared.Content.{Content}
 use Rattle.rows.specs.declared.Row.{Row}
 use Rattle.packet.specs.Said.{headerAt}
 use Rattle.packet.specs.Verdict.{checked}
 use Rattle.packet.specs.declared.Header.{Header}
 use Rattle.packet.specs.declared.Accepted.{Accepted}
+use Rattle.walker.specs.declared.Standing.{Standing}
+use Rattle.walker.specs.declared.Seen.{Seen}
+use Rattle.walker.specs.declared.Seen.the-variants as seen
 use Rattle.walker.specs.declared.Found.{Found}
 use Rattle.walker.specs.declared.Found.the-variants.{Item, NoMore}
 use Rattle.walker.specs.declared.Begin.{Begin}
 use Rattle.walker.specs.declared.Begin.the-variants as begin
 
--- "its tag beside one of four kinds of content"
-abbrev pub contentIn : Shape → ℕ → Part → Content
-contentIn shape code part = contentOf (seenAs shape code (part .length) part)
-
 abbrev pub headerValue : List ℕ → Header → List ℕ
 headerValue p h = take (h .size) (drop (h .place) p)
 
--- the item with a header: of more than eight bytes of a number the last eight count
-unfoldable pub rowIn : TagSet → List ℕ → Header → Row
-rowIn K p h =
+abbrev pub headerPart : Header → Part
+headerPart h = record { place = h .place; length = h .size }
+
+-- what a receiver sees in the item with a header: of more than eight bytes of a number the last eight count
+abbrev pub meaningIn : TagSet → List ℕ → Header → Meaning Part
+meaningIn K p h = seenAs (shapeFor (holds K) (h .tag)) (valueOf (headerValue p h) % 2 ^ 64) (h .size) (headerPart h)
+
+-- the item where it stands: "tag; kind ...; the stored code ...", and its value's place and length
+unfoldable pub seenIn : TagSet → List ℕ → Header → Standing
+seenIn K p h =
     record {
       tag = h .tag;
-      content = contentIn (shapeFor (holds K) (h .tag)) (valueOf (headerValue p h) % 2 ^ 64) (record { place = h .place; length = h .size });
+      kind = kindOf (meaningIn K p h);
+      code = codeOf (meaningIn K p h);
+      place = h .place;
+      length = h .size;
+      next = h .place + h .size;
     }
 
--- the item at a place, its value, and the place after it; where there is none, no bytes and the same place
-abbrev pub foundBy : TagSet → List ℕ → Answer Header → Found
-foundBy K p = orElse NoMore (λ h. Item (rowIn K p h))
+-- the code by the shape and the value as a number, whatever the length
+abbrev pub codeFor : Shape → ℕ → ℕ
+codeFor shape code = codeOf (seenAs {A = Unit {0}} shape code 0 tt)
+
+-- "its tag beside one of four kinds of content"
+unfoldable pub rowSeen : Standing → Row
+rowSeen s = record { tag = s .tag; content = contentOf (saidBy (s .kind) (s .code) (s .length) (record { place = s .place; length = s .length })) }
+
+-- the item at a place, where it stands and as a row; its value, and the place after it; where there is none, no bytes and the same place
+abbrev pub seenBy : TagSet → List ℕ → Answer Header → Seen
+seenBy K p = orElse seen.NoMore (λ h. seen.Item (seenIn K p h))
+
+abbrev pub foundSeen : Seen → Found
+foundSeen (seen.Item s) = Item (rowSeen s)
+foundSeen seen.NoMore = NoMore
 
 abbrev pub partBy : List ℕ → Answer Header → List ℕ
 partBy p = orElse [] (headerValue p)
@@ -47,8 +68,11 @@ partBy p = orElse [] (headerValue p)
 abbrev pub nextBy : ℕ → Answer Header → ℕ
 nextBy at = orElse at (λ h. h .place + h .size)
 
+unfoldable pub seenAt : TagSet → List ℕ → ℕ → Seen
+seenAt K p at = seenBy K p (headerAt p at)
+
 unfoldable pub foundAt : TagSet → List ℕ → ℕ → Found
-foundAt K p at = foundBy K p (headerAt p at)
+foundAt K p at = foundSeen (seenAt K p at)
 
 unfoldable pub partAt : List ℕ → ℕ → List ℕ
 partAt p at = partBy p (headerAt p at)

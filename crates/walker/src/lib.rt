@@ -2,15 +2,16 @@
 // packet.
 // From the start to "no more" it hands out just the reader's rows, in their order; every step has an answer.
 ghost use mathlib.Core.Path.{_≡_};
-ghost use Prim.Native.Nat.{_+_, _≤_};
+ghost use Prim.Native.Nat.{_+_, _%_, _^_, _≤_};
 ghost use lib.ListN.{length};
+ghost use Rattle.number.specs.Stored.{valueOf};
 ghost use Rattle.tagset.specs.Sets.{holds, knowing};
 ghost use Rattle.catalogue.specs.Shapes.{isMarked};
 ghost use Rattle.catalogue.specs.declared.Shape.the-variants.{Number};
 ghost use Rattle.rows.specs.Meaning.{shapeFor};
 ghost use Rattle.packet.specs.Verdict.{checked};
 ghost use Rattle.walker.specs.Passes.{Starts, Passes};
-ghost use Rattle.walker.specs.Steps.{contentIn, rowIn, foundAt, partAt, nextAt, beginBy, beginSaid, startPlace, placeNumber};
+ghost use Rattle.walker.specs.Steps.{codeFor, seenIn, rowSeen, seenAt, foundAt, partAt, nextAt, beginBy, beginSaid, startPlace, placeNumber};
 use catalogue::Found as Listed;
 use catalogue::Shape;
 use catalogue::Sign;
@@ -18,10 +19,25 @@ use packet::Checked;
 use packet::Header;
 use packet::Step;
 use refusal::Refusal;
-use rows::Content;
 use rows::Part;
 use rows::Row;
 use tagset::TagSet;
+
+// An item where it stands: its row, with the place and the length of its value apart, and the place after it.
+pub struct Standing {
+    pub tag: u64,
+    pub kind: u64,
+    pub code: u64,
+    pub place: usize,
+    pub length: usize,
+    pub next: usize,
+}
+
+// The item that stands at a place, or that there are no more.
+pub enum Seen {
+    Item(Standing),
+    NoMore,
+}
 
 // An item as a row taken out singly, or that there are no more.
 pub enum Found {
@@ -36,12 +52,13 @@ pub enum Begin {
 }
 
 // How a walk begins, and where.
-struct Begun {
-    answer: Begin,
-    at: usize,
+pub struct Begun {
+    pub answer: Begin,
+    pub at: usize,
 }
 
-fn opened(packet: &[u8], low: u64, high: u64) -> Begun
+// Begins a walk: the packet is checked as the reader checks it.
+pub fn opened(packet: &[u8], low: u64, high: u64) -> Begun
     ensures { λ r. ⌜ (beginSaid (r .answer) ≡ beginBy (checked (knowing low high) (now (packet .entry))))
         × (r .at ≡ startPlace (knowing low high) (now (packet .entry))) ⌝ }
 {
@@ -96,54 +113,72 @@ fn shape_of(known: TagSet, tag: u64) -> Shape
     Shape::Absent
 }
 
-fn content_of(shape: Shape, code: u64, part: Part) -> Content
-    ensures { λ r. ⌜ r ≡ contentIn shape code part ⌝ }
+// The code of a number; a text or carried value is not looked into.
+fn code_of(shape: Shape, value: &[u8]) -> u64
+    ensures { λ r. ⌜ r ≡ codeFor shape (valueOf (now (value .entry)) % 2 ^ 64) ⌝ }
 {
     match shape {
-        Shape::Text => Content::Text(part),
-        Shape::Absent => Content::Carried(part),
+        Shape::Text => 0,
+        Shape::Absent => 0,
         Shape::Number {
             width: _,
             marked: _,
-        } => {
-            if rows::kind_of(shape, code) == rows::MARK {
-                return Content::Mark;
-            }
-            Content::Reading(code)
-        }
+        } => number::value(value),
     }
 }
 
-fn row_of(packet: &[u8], known: TagSet, item: Header) -> Row
+fn standing_in(packet: &[u8], known: TagSet, item: Header) -> Standing
     requires { ⌜ item .place + item .size ≤ length (now packet) ⌝ }
-    ensures { λ r. ⌜ r ≡ rowIn known (now (packet .entry)) item ⌝ }
+    ensures { λ r. ⌜ r ≡ seenIn known (now (packet .entry)) item ⌝ }
 {
     let place = item.place;
-    let size = item.size;
-    let end = place + size;
-    let code = number::value(&packet[place..end]);
+    let next = place + item.size;
     let shape = shape_of(known, item.tag);
-    let part = Part {
-        place,
-        length: size,
-    };
-    Row {
+    let code = code_of(shape, &packet[place..next]);
+    Standing {
         tag: item.tag,
-        content: content_of(shape, code, part),
+        kind: rows::kind_of(shape, code),
+        code,
+        place,
+        length: item.size,
+        next,
     }
 }
 
-// The item at a place.
+// The item at a place, where it stands.
+pub fn seen_at(packet: &[u8], at: usize, low: u64, high: u64) -> Seen
+    ensures { λ r. ⌜ r ≡ seenAt (knowing low high) (now (packet .entry)) at ⌝ }
+{
+    match packet::item_at(packet, at) {
+        Step::Item(item) => Seen::Item(standing_in(packet, TagSet { low, high }, item)),
+        Step::Refused(_) => Seen::NoMore,
+    }
+}
+
+fn row_of(seen: Standing) -> Row
+    ensures { λ r. ⌜ r ≡ rowSeen seen ⌝ }
+{
+    let part = Part {
+        place: seen.place,
+        length: seen.length,
+    };
+    Row {
+        tag: seen.tag,
+        content: rows::content_of(seen.kind, seen.code, part),
+    }
+}
+
+// The item at a place, as a row taken out singly.
 pub fn found_at(packet: &[u8], at: usize, low: u64, high: u64) -> Found
     ensures { λ r. ⌜ r ≡ foundAt (knowing low high) (now (packet .entry)) at ⌝ }
 {
-    match packet::item_at(packet, at) {
-        Step::Item(item) => Found::Item(row_of(packet, TagSet { low, high }, item)),
-        Step::Refused(_) => Found::NoMore,
+    match seen_at(packet, at, low, high) {
+        Seen::Item(seen) => Found::Item(row_of(seen)),
+        Seen::NoMore => Found::NoMore,
     }
 }
 
-// Its value.
+// The value of the item at a place.
 pub fn value_at(packet: &[u8], at: usize) -> &[u8]
     ensures { λ r. ⌜ now r ≡ partAt (now (packet .entry)) at ⌝ }
 {
@@ -188,7 +223,7 @@ pub struct Passed<'a> {
     pub rest: Walker<'a>,
 }
 
-// Starts a walk: the packet is checked as the reader checks it.
+// Starts a walk, with the walker.
 pub fn start<'a>(packet: &'a [u8], low: u64, high: u64) -> Started<'a>
     ensures { λ r. ⌜ Starts (packet .entry) low high r ⌝ }
 {

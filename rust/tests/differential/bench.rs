@@ -1,6 +1,7 @@
 //! Runs the cases of a law and counts what came.
 
 use crate::compare::{holds, Comparer, Tally, Verdict};
+use crate::lists::List;
 use crate::make::Maker;
 use crate::random::{setting, Random};
 use crate::tables::Table;
@@ -20,9 +21,11 @@ pub struct Bench {
     pub comparer: Comparer,
     pub packet: Vec<u8>,
     pub table: Table,
+    pub list: List,
     seed: u64,
     packet_as_made: Vec<u8>,
     table_as_made: Table,
+    list_as_made: List,
 }
 
 impl Bench {
@@ -32,9 +35,11 @@ impl Bench {
             comparer: Comparer::new(twin),
             packet: Vec::new(),
             table: Table::default(),
+            list: List::default(),
             seed: seed(),
             packet_as_made: Vec::new(),
             table_as_made: Table::default(),
+            list_as_made: List::default(),
         }
     }
 
@@ -48,9 +53,16 @@ impl Bench {
         self.table_as_made.clone_from(&self.table);
     }
 
+    pub fn make_list(&mut self) {
+        self.maker.list(&mut self.list);
+        self.list_as_made.clone_from(&self.list);
+    }
+
     /// What is lent to be read alone stays as it was.
     fn inputs_stay(&self) -> Verdict {
-        let stay = self.packet == self.packet_as_made && self.table == self.table_as_made;
+        let stay = self.packet == self.packet_as_made
+            && self.table == self.table_as_made
+            && self.list == self.list_as_made;
         holds(stay, || String::from("an input has changed"))
     }
 

@@ -1,5 +1,7 @@
 //! Document 01's catalogue, typed from its table.
 
+use Unit::{Degree, DegreeCelsius, Metre, MetreASecond, Microsecond, Millibar, Percent};
+
 /// How an item of the catalogue is stored; scales are in house units.
 #[derive(Clone, Copy, PartialEq, Eq, Debug)]
 pub enum Form {
@@ -23,6 +25,18 @@ pub enum Form {
     Text,
 }
 
+/// What a value of an item counts.
+#[derive(Clone, Copy, PartialEq, Eq, Debug)]
+pub enum Unit {
+    Degree,
+    Metre,
+    MetreASecond,
+    Millibar,
+    Percent,
+    DegreeCelsius,
+    Microsecond,
+}
+
 const DEGREE: i64 = 10_000_000;
 const METRE: i64 = 1_000;
 const METRE_A_SECOND: i64 = 1_000;
@@ -42,61 +56,89 @@ const fn signed(bytes: usize, high: i64) -> Form {
     Form::Signed { bytes, high }
 }
 
-const GROUPS: [(&[u64], Form); 23] = [
-    (&[5, 35, 64, 71], unsigned(2, 0, 360 * DEGREE)),
-    (&[6], signed(2, 20 * DEGREE)),
-    (&[7], signed(2, 50 * DEGREE)),
-    (&[8, 9, 56], unsigned(1, 0, 255 * METRE_A_SECOND)),
+const GROUPS: [(&[u64], Option<Unit>, Form); 23] = [
+    (&[5, 35, 64, 71], Some(Degree), unsigned(2, 0, 360 * DEGREE)),
+    (&[6], Some(Degree), signed(2, 20 * DEGREE)),
+    (&[7], Some(Degree), signed(2, 50 * DEGREE)),
+    (
+        &[8, 9, 56],
+        Some(MetreASecond),
+        unsigned(1, 0, 255 * METRE_A_SECOND),
+    ),
     (
         &[13, 23, 67, 82, 84, 86, 88, 90, 91],
+        Some(Degree),
         signed(4, 90 * DEGREE),
     ),
-    (&[14, 19, 24, 68, 83, 85, 87, 89], signed(4, 180 * DEGREE)),
+    (
+        &[14, 19, 24, 68, 83, 85, 87, 89],
+        Some(Degree),
+        signed(4, 180 * DEGREE),
+    ),
     (
         &[15, 25, 38, 75, 78],
+        Some(Metre),
         unsigned(2, -900 * METRE, 19_000 * METRE),
     ),
-    (&[16, 17], unsigned(2, 0, 180 * DEGREE)),
-    (&[18, 20], unsigned(4, 0, 360 * DEGREE)),
-    (&[21, 57], unsigned(4, 0, 5_000_000 * METRE)),
-    (&[22], unsigned(2, 0, 10_000 * METRE)),
+    (&[16, 17], Some(Degree), unsigned(2, 0, 180 * DEGREE)),
+    (&[18, 20], Some(Degree), unsigned(4, 0, 360 * DEGREE)),
+    (&[21, 57], Some(Metre), unsigned(4, 0, 5_000_000 * METRE)),
+    (&[22], Some(Metre), unsigned(2, 0, 10_000 * METRE)),
     (
         &[26, 27, 28, 29, 30, 31, 32, 33],
+        Some(Degree),
         signed(2, 75 * DEGREE / 1_000),
     ),
-    (&[36], unsigned(1, 0, 100 * METRE_A_SECOND)),
-    (&[55], unsigned(1, 0, 100 * PERCENT)),
-    (&[37], unsigned(2, 0, 5_000 * MILLIBAR)),
-    (&[39], Form::Celsius),
-    (&[79, 80], signed(2, 327 * METRE_A_SECOND)),
-    (&[1], plain(2, u16::MAX as u64)),
-    (&[2], plain(8, u64::MAX)),
-    (&[65], plain(1, u8::MAX as u64)),
-    (&[34], plain(1, 2)),
-    (&[63], plain(1, 8)),
-    (&[3, 4, 10, 11, 12, 59, 70], Form::Text),
+    (
+        &[36],
+        Some(MetreASecond),
+        unsigned(1, 0, 100 * METRE_A_SECOND),
+    ),
+    (&[55], Some(Percent), unsigned(1, 0, 100 * PERCENT)),
+    (&[37], Some(Millibar), unsigned(2, 0, 5_000 * MILLIBAR)),
+    (&[39], Some(DegreeCelsius), Form::Celsius),
+    (
+        &[79, 80],
+        Some(MetreASecond),
+        signed(2, 327 * METRE_A_SECOND),
+    ),
+    (&[1], None, plain(2, u16::MAX as u64)),
+    (&[2], Some(Microsecond), plain(8, u64::MAX)),
+    (&[65], None, plain(1, u8::MAX as u64)),
+    (&[34], None, plain(1, 2)),
+    (&[63], None, plain(1, 8)),
+    (&[3, 4, 10, 11, 12, 59, 70], None, Form::Text),
 ];
 
-static BY_TAG: [Option<Form>; 128] = by_tag();
+static BY_TAG: [Option<(Form, Option<Unit>)>; 128] = by_tag();
 
-const fn by_tag() -> [Option<Form>; 128] {
-    let mut forms = [None; 128];
+const fn by_tag() -> [Option<(Form, Option<Unit>)>; 128] {
+    let mut items = [None; 128];
     let mut group = 0;
     while group < GROUPS.len() {
-        let (tags, form) = GROUPS[group];
+        let (tags, unit, form) = GROUPS[group];
         let mut n = 0;
         while n < tags.len() {
-            assert!(forms[tags[n] as usize].is_none());
-            forms[tags[n] as usize] = Some(form);
+            assert!(items[tags[n] as usize].is_none());
+            items[tags[n] as usize] = Some((form, unit));
             n += 1;
         }
         group += 1;
     }
-    forms
+    items
 }
 
 /// The catalogue's word on a tag, if it has one.
 pub fn form(tag: u64) -> Option<Form> {
+    Some(item(tag)?.0)
+}
+
+/// The unit of an item, if it has one.
+pub fn unit(tag: u64) -> Option<Unit> {
+    item(tag)?.1
+}
+
+fn item(tag: u64) -> Option<(Form, Option<Unit>)> {
     BY_TAG.get(usize::try_from(tag).ok()?).copied().flatten()
 }
 
@@ -104,11 +146,11 @@ pub fn form(tag: u64) -> Option<Form> {
 pub const ALL: u128 = all();
 
 const fn all() -> u128 {
-    let forms = by_tag();
+    let items = by_tag();
     let mut set = 0;
     let mut tag = 0;
     while tag < 128 {
-        if forms[tag].is_some() {
+        if items[tag].is_some() {
             set |= 1 << tag;
         }
         tag += 1;

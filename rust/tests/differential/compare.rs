@@ -2,12 +2,14 @@
 
 use std::fmt::Debug;
 
-use oysterknoll::{Content, Corner, Height, Knowing, Refusal};
+use oysterknoll::{catalogue, Knowing, Refusal};
 
 use crate::lent::Lent;
-use crate::twin::{refused, Refused, Row, Twin, CARRIED, MARK, READING, TEXT};
-use crate::twin_answers::{TwinCorner, TwinHeight};
+use crate::same::{corner, height, item, row_of, same_row, same_rows, same_walk};
+use crate::twin::{refused, Refused, Twin};
+use crate::twin_records::Record;
 use crate::twin_write::Rows;
+use crate::wire::MOST_ITEMS;
 
 /// Nothing, or how product and twin differ.
 pub type Verdict = Result<(), String>;
@@ -44,6 +46,7 @@ struct Asked<'a> {
     function: &'a str,
     bytes: &'a [u8],
     words: &'a [u64],
+    records: &'a [Record<'a>],
     set: u128,
     rest: &'a [usize],
 }
@@ -99,6 +102,20 @@ impl Comparer {
         )
     }
 
+    /// A walk over all items and past the last; a copy of the walker goes the same way.
+    pub fn items(&mut self, packet: &[u8], set: u128) -> Verdict {
+        let twin = self.twin.walked(packet, set);
+        let product = oysterknoll::items(packet, knowing(set));
+        let same = match (&product, &twin) {
+            (Ok(items), Ok(rows)) => same_walk(items.clone(), rows, packet),
+            _ => true,
+        };
+        // An endless walk is to differ, not to hang.
+        let product = product.map(|items| items.take(MOST_ITEMS + 1).count());
+        let twin = twin.map(|rows| rows.len());
+        self.agree(Asked::of("items", packet, set), product, twin, same)
+    }
+
     pub fn take_row(&mut self, lent: Rows, n: usize) -> Verdict {
         let asked = Asked::of_rows("take_row", lent);
         let twin = self.twin.taken_row(lent, n);
@@ -124,6 +141,21 @@ impl Comparer {
         self.agree_on_bytes(asked.with(&[lent.count, length]), product, written, length)
     }
 
+    pub fn write_rows(
+        &mut self,
+        records: &[Record],
+        set: u128,
+        room: impl FnOnce(usize) -> usize,
+    ) -> Verdict {
+        let asked = Asked::of_records("write_rows", records, set);
+        let written = self.twin.written_records(records, set);
+        let length = room(written.as_ref().map_or(64, Vec::len));
+        let out = self.out.lend(length);
+        let rows: Vec<oysterknoll::Row> = records.iter().map(row_of).collect();
+        let product = oysterknoll::write_rows(&rows, knowing(set), out);
+        self.agree_on_bytes(asked.with(&[length]), product, written, length)
+    }
+
     pub fn forward(
         &mut self,
         packet: &[u8],
@@ -145,6 +177,19 @@ impl Comparer {
         let product = oysterknoll::list(packet, out);
         let asked = Asked::of("list", packet, 0);
         self.agree_on_bytes(asked.with(&[length]), product, listing, length)
+    }
+
+    pub fn item(&mut self, tag: u64) -> Verdict {
+        let twin = self.twin.item(tag);
+        let product = catalogue::item(tag);
+        let has_its_tag = product.iter().all(|item| item.tag == tag);
+        let asked = Asked::of("item", &[], 0);
+        self.agree(
+            asked.with(&[tag as usize]),
+            Ok(product.map(item)),
+            Ok(twin),
+            has_its_tag,
+        )
     }
 
     pub fn house_of(&mut self, tag: u64, code: u64) -> Verdict {
@@ -233,6 +278,7 @@ impl<'a> Asked<'a> {
             function,
             bytes,
             words: &[],
+            records: &[],
             set,
             rest: &[],
         }
@@ -242,6 +288,13 @@ impl<'a> Asked<'a> {
         Asked {
             words: lent.words,
             ..Asked::of(function, lent.buffer, lent.set)
+        }
+    }
+
+    fn of_records(function: &'a str, records: &'a [Record<'a>], set: u128) -> Asked<'a> {
+        Asked {
+            records,
+            ..Asked::of(function, &[], set)
         }
     }
 
@@ -259,55 +312,8 @@ impl std::fmt::Display for Asked<'_> {
             .collect();
         write!(
             f,
-            "{} of bytes [{hex}], words {:X?}, set {:X}, numbers {:?}",
-            self.function, self.words, self.set, self.rest
+            "{} of bytes [{hex}], words {:X?}, records {:X?}, set {:X}, numbers {:?}",
+            self.function, self.words, self.records, self.set, self.rest
         )
     }
-}
-
-fn height(height: Height) -> TwinHeight {
-    match height {
-        Height::OverEllipsoid(height) => TwinHeight::OverEllipsoid(height.0),
-        Height::OverSeaLevel(height) => TwinHeight::OverSeaLevel(height.0),
-        Height::Missing => TwinHeight::Missing,
-        _ => panic!("a kind of height that document 01 does not have"),
-    }
-}
-
-fn corner(corner: Corner) -> TwinCorner {
-    match corner {
-        Corner::At(point) => TwinCorner::At(point.latitude, point.longitude),
-        Corner::OffTheEarth => TwinCorner::OffTheEarth,
-        Corner::Missing => TwinCorner::Missing,
-        _ => panic!("a kind of corner that document 01 does not have"),
-    }
-}
-
-fn same_rows(product: &oysterknoll::Rows, rows: &[Row], packet: &[u8]) -> bool {
-    let words = rows.iter().flat_map(|row| row.words());
-    product.len() == rows.len()
-        && product.words().iter().copied().eq(words)
-        && product.get(rows.len()).is_none()
-        && product
-            .iter()
-            .zip(rows)
-            .all(|(product, row)| same_row(&product, row, packet))
-}
-
-/// Whether a row taken out is the twin's, its value being that part of the buffer.
-fn same_row(product: &oysterknoll::Row, row: &Row, buffer: &[u8]) -> bool {
-    let same_content = match product.content {
-        Content::Reading(code) => row.kind == READING && code == row.code,
-        Content::Mark => row.kind == MARK,
-        Content::Text(value) => row.kind == TEXT && is_part(value, row, buffer),
-        Content::Carried(value) => row.kind == CARRIED && is_part(value, row, buffer),
-        _ => false,
-    };
-    product.tag == row.tag && same_content
-}
-
-fn is_part(value: &[u8], row: &Row, buffer: &[u8]) -> bool {
-    let part = &buffer[row.place..row.place + row.length];
-    // An empty value has no bytes that could be in the wrong place.
-    std::ptr::eq(value, part) || (value.is_empty() && part.is_empty())
 }

@@ -1,4 +1,4 @@
-//! Demands 2 and 3, stated on the product's own answers.
+//! Demands 2 and 3, and that walker and records are thin covers, stated on the product's own answers.
 
 use oysterknoll::{Refusal, LONGEST_PACKET, TABLE_WORDS};
 
@@ -138,4 +138,44 @@ fn forwarded_is_same(
         }
         _ => false,
     }
+}
+
+/// A walk hands out the reader's rows; written as records they are what is sent on.
+pub fn walked_and_written(bench: &mut Bench) -> Verdict {
+    bench.make_packet();
+    let set = bench.maker.set();
+    let packet = &bench.packet;
+    let mut table = vec![0; TABLE_WORDS];
+    let read = oysterknoll::read(packet, knowing(set), &mut table);
+    let read = read.map(|rows| rows.iter().collect());
+    let walked = oysterknoll::items(packet, knowing(set));
+    let walked: Result<Vec<_>, _> = walked.map(|items| items.collect());
+    let tally = &mut bench.comparer.tally;
+    tally.cases += 1;
+    let told = |law| format!("{law}: packet {packet:02X?}, set {set:X}");
+    holds(walked == read, || told("walked it is not what is read"))?;
+    match walked {
+        Ok(rows) => {
+            tally.accepted += 1;
+            let same = written_is_forwarded(packet, &rows, set);
+            holds(same, || {
+                told("its records are not written as it is sent on")
+            })
+        }
+        Err(refusal) => {
+            tally.refusals[refusal.number() as usize] += 1;
+            Ok(())
+        }
+    }
+}
+
+/// Outputs of enough bytes, of one fewer than the packet has, and of none.
+fn written_is_forwarded(packet: &[u8], rows: &[oysterknoll::Row], set: u128) -> bool {
+    [packet.len(), packet.len() - 1, 0].into_iter().all(|room| {
+        let mut sent = vec![0xEE; room];
+        let mut written = sent.clone();
+        let forwarded = oysterknoll::forward(packet, knowing(set), &mut sent);
+        let packed = oysterknoll::write_rows(rows, knowing(set), &mut written);
+        forwarded == packed && sent == written
+    })
 }

@@ -20,6 +20,15 @@ pub fn reader(bench: &mut Bench) -> Verdict {
     Ok(())
 }
 
+pub fn walker(bench: &mut Bench) -> Verdict {
+    bench.make_packet();
+    for _ in 0..2 {
+        let set = bench.maker.set();
+        bench.comparer.items(&bench.packet, set)?;
+    }
+    Ok(())
+}
+
 pub fn forwarder(bench: &mut Bench) -> Verdict {
     bench.make_packet();
     let set = bench.maker.set();
@@ -35,6 +44,16 @@ pub fn writer(bench: &mut Bench) -> Verdict {
     for _ in 0..2 {
         let room = room(&mut bench.maker.random);
         bench.comparer.write(bench.table.lent(), room)?;
+    }
+    Ok(())
+}
+
+pub fn writer_of_records(bench: &mut Bench) -> Verdict {
+    bench.make_list();
+    let records = bench.list.lent();
+    for _ in 0..2 {
+        let room = room(&mut bench.maker.random);
+        bench.comparer.write_rows(&records, bench.list.set, room)?;
     }
     Ok(())
 }

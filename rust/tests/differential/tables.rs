@@ -131,7 +131,7 @@ impl Maker {
         match self.random.below(4) {
             0 => changed[0] = self.odd_tag(row.tag),
             1 => changed[1] = self.random.pick(&[0, 1, 2, 3, 4, 5, 1 << 32, u64::MAX]),
-            2 => changed[2] = self.odd_code(&row),
+            2 => changed[2] = self.odd_code(row.code, row.length.min(8)),
             _ => changed[3] = self.odd_value(&row, table.buffer.len()),
         }
         // The kind a changed code asks for, so that rules after the mark rule are reached.
@@ -175,7 +175,7 @@ impl Maker {
         table.words.splice(4..4, before);
     }
 
-    fn odd_tag(&mut self, tag: u64) -> u64 {
+    pub fn odd_tag(&mut self, tag: u64) -> u64 {
         let odd = [0, 1, 2, 65, 3, 34, 63, 130, LAST_TAG, LAST_TAG + 1, 1 << 63];
         match self.random.below(4) {
             0 => tag ^ 1 << self.random.below(64),
@@ -185,8 +185,9 @@ impl Maker {
         }
     }
 
-    fn odd_code(&mut self, row: &Row) -> u64 {
-        let bits = 8 * row.length.min(8) as u32;
+    /// Another code for a number of so many bytes.
+    pub fn odd_code(&mut self, code: u64, bytes: usize) -> u64 {
+        let bits = 8 * bytes as u32;
         let too_wide = 1u64.checked_shl(bits).unwrap_or(0);
         let mark = too_wide / 2;
         match self.random.below(10) {
@@ -197,7 +198,7 @@ impl Maker {
             4 => mark.wrapping_sub(1),
             5 => u64::MAX,
             6 => self.random.next(),
-            7 => row.code | 1 << self.random.below(64),
+            7 => code | 1 << self.random.below(64),
             _ => self.random.below(12) as u64,
         }
     }

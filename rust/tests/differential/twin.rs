@@ -5,9 +5,20 @@
 use crate::catalogue::{form, knows, Form, ALL, SMALLEST};
 use crate::wire::{checksum, length_at, number, tag_at, KEY, MOST_BYTES, MOST_ITEMS};
 
-/// One rule told wrongly, to see that the comparison notices.
-#[derive(Clone, Copy, PartialEq, Eq, Debug)]
-pub enum Altered {
+macro_rules! alterations {
+    ($($name:ident,)*) => {
+        /// One rule told wrongly, to see that the comparison notices.
+        #[derive(Clone, Copy, PartialEq, Eq, Debug)]
+        pub enum Altered {
+            $($name,)*
+        }
+
+        /// Every alteration.
+        pub const ALTERATIONS: &[Altered] = &[$(Altered::$name,)*];
+    };
+}
+
+alterations! {
     MarkOfOffsetsIsANumber,
     LowestCelsiusIsAMark,
     SignedDividedByAllOnes,
@@ -33,36 +44,13 @@ pub enum Altered {
     BadRowsTagAlwaysNamed,
     ExactRoomIsTooShort,
     MarkListedAsANumber,
+    WalkStopsBeforeTheLast,
+    CarriedWalkedAsText,
+    OneRecordMore,
+    LongRecordWrapped,
+    MarkForAnyNumber,
+    Units36And55Swapped,
 }
-
-/// Every alteration.
-pub const ALTERATIONS: [Altered; 25] = [
-    Altered::MarkOfOffsetsIsANumber,
-    Altered::LowestCelsiusIsAMark,
-    Altered::SignedDividedByAllOnes,
-    Altered::TiesTowardsZero,
-    Altered::OffsetsWhenAFullCornerIsAMark,
-    Altered::OneFullCornerRowDecides,
-    Altered::SeaLevelFirst,
-    Altered::UnknownItemDropped,
-    Altered::UnknownItemRefused,
-    Altered::ChecksumToTheEnd,
-    Altered::TagsKnownModulo128,
-    Altered::LongFormKept,
-    Altered::LongFormRefused,
-    Altered::LastItemByTagOnly,
-    Altered::SecondBeforeLength,
-    Altered::Item65NotAsked,
-    Altered::OneItemMore,
-    Altered::Item63UpTo7,
-    Altered::ChecksumRowsCodeAsked,
-    Altered::EmptyTextIsABadRow,
-    Altered::RestOfTheTableStays,
-    Altered::PlaceOfNumbersAsked,
-    Altered::BadRowsTagAlwaysNamed,
-    Altered::ExactRoomIsTooShort,
-    Altered::MarkListedAsANumber,
-];
 
 /// The twin, with at most one rule told wrongly.
 #[derive(Clone, Copy)]

@@ -1,6 +1,6 @@
-//! The twin's conversions, heights, corners and listing.
+//! The twin's word on an item, its conversions, heights, corners and listing.
 
-use crate::catalogue::{form, Form, ALL, DEGREE_CELSIUS};
+use crate::catalogue::{form, unit, Form, Unit, ALL, DEGREE_CELSIUS};
 use crate::twin::{refused, Altered, Refused, Row, Twin, CARRIED, MARK, TEXT};
 
 /// A scale: the value is `origin` + number × `range` / `steps`, exactly.
@@ -56,6 +56,16 @@ impl Scale {
     }
 }
 
+/// What the catalogue has for a tag: a text has no bytes of its own, and what has no scale no range.
+#[derive(Clone, Copy, PartialEq, Eq, Debug)]
+pub struct TwinItem {
+    pub signed: bool,
+    pub bytes: Option<usize>,
+    pub range: Option<(i64, i64)>,
+    pub unit: Option<Unit>,
+    pub marked: bool,
+}
+
 #[derive(Clone, Copy, PartialEq, Eq, Debug)]
 pub enum TwinHeight {
     OverEllipsoid(i64),
@@ -83,6 +93,21 @@ fn nearest(numerator: i128, denominator: i128) -> i128 {
 }
 
 impl Twin {
+    pub fn item(self, tag: u64) -> Option<TwinItem> {
+        let form = form(tag)?;
+        let unit_of = match tag {
+            36 | 55 if self.is(Altered::Units36And55Swapped) => 36 + 55 - tag,
+            _ => tag,
+        };
+        Some(TwinItem {
+            signed: matches!(form, Form::Signed { .. } | Form::Celsius),
+            bytes: form.bytes(),
+            range: Scale::of(tag).map(|scale| (scale.low, scale.high)),
+            unit: unit(unit_of),
+            marked: self.mark(tag, form).is_some(),
+        })
+    }
+
     pub fn to_house(self, tag: u64, code: u64) -> Result<i64, Refused> {
         let form = form(tag).ok_or(refused(19, 0, tag))?;
         let scale = Scale::of(tag).ok_or(refused(19, 0, tag))?;

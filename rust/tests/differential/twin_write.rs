@@ -20,9 +20,15 @@ impl Twin {
     /// The packet of these rows, in an output that is long enough.
     pub fn written(self, lent: Rows) -> Result<Vec<u8>, Refused> {
         let rows = self.rows(lent)?;
-        match rows.iter().position(|row| !self.is_good_row(row, lent)) {
+        self.written_rows(&rows, lent.buffer, lent.set)
+    }
+
+    /// The packet of rows that are not too many, if none of them is bad.
+    pub fn written_rows(self, rows: &[Row], buffer: &[u8], set: u128) -> Result<Vec<u8>, Refused> {
+        let is_bad = |row: &Row| !self.is_good_row(row, buffer, set);
+        match rows.iter().position(is_bad) {
             Some(n) => Err(self.bad_row(n, rows[n].tag)),
-            None => self.written_rows(&rows, lent),
+            None => self.written_good_rows(rows, buffer, set),
         }
     }
 
@@ -55,7 +61,7 @@ impl Twin {
     pub fn taken_row(self, lent: Rows, n: usize) -> Result<Row, Refused> {
         let rows = self.rows(lent)?;
         let row = *rows.get(n).ok_or(refused(17, n, 0))?;
-        if self.is_good_row(&row, lent) {
+        if self.is_good_row(&row, lent.buffer, lent.set) {
             Ok(row)
         } else {
             Err(self.bad_row(n, row.tag))
@@ -74,15 +80,17 @@ impl Twin {
         Ok(rows.map(Row::from_words).collect())
     }
 
-    fn is_good_row(self, row: &Row, lent: Rows) -> bool {
-        let inside = row.code == 0 && row.place + row.length <= lent.buffer.len();
+    fn is_good_row(self, row: &Row, buffer: &[u8], set: u128) -> bool {
+        let inside = row.place + row.length <= buffer.len();
+        // A row's fourth word has no room for a longer one, so a longer record is no row.
+        let is_part = row.code == 0 && row.length < 65_536 && inside;
         let tag_is_good = (1..=LAST_TAG).contains(&row.tag);
         tag_is_good
-            && match self.known_form(lent.set, row.tag) {
-                None => row.kind == CARRIED && inside,
+            && match self.known_form(set, row.tag) {
+                None => row.kind == CARRIED && is_part,
                 Some(Form::Text) => {
                     let empty = self.is(Altered::EmptyTextIsABadRow) && row.length == 0;
-                    row.kind == TEXT && inside && !empty
+                    row.kind == TEXT && is_part && !empty
                 }
                 Some(_) if self.is(Altered::PlaceOfNumbersAsked) && row.place > 65_535 => false,
                 Some(form) => self.is_good_number(row, form),
@@ -99,7 +107,7 @@ impl Twin {
     }
 
     /// Rows that are not bad: size, then the packet's own rules.
-    fn written_rows(self, rows: &[Row], lent: Rows) -> Result<Vec<u8>, Refused> {
+    fn written_good_rows(self, rows: &[Row], buffer: &[u8], set: u128) -> Result<Vec<u8>, Refused> {
         let items: usize = rows.iter().map(|row| self.item_size(row)).sum();
         if KEY.len() + length_size(items) + items > MOST_BYTES {
             return Err(refused(3, 0, 0));
@@ -114,14 +122,14 @@ impl Twin {
         if rows[last].tag != 1 {
             return Err(refused(10, last, rows[last].tag));
         }
-        let known = (0..rows.len()).find_map(|n| self.known_row(rows, n, lent.set));
+        let known = (0..rows.len()).find_map(|n| self.known_row(rows, n, set));
         if let Some(refusal) = known {
             return Err(refusal);
         }
         if rows.iter().all(|row| row.tag != 65) && !self.is(Altered::Item65NotAsked) {
             return Err(refused(15, 0, 0));
         }
-        Ok(self.bytes(rows, items, lent.buffer))
+        Ok(self.bytes(rows, items, buffer))
     }
 
     /// Refusals 12, 13 and 14 of one row.

@@ -7,7 +7,8 @@ use crate::catalogue::ALL;
 use crate::compare::Comparer;
 use crate::conversions::scaled;
 use crate::make::repair_checksum;
-use crate::twin::Twin;
+use crate::twin::{Twin, CARRIED, MARK, READING, TEXT};
+use crate::twin_records::Record;
 use crate::wire::{length_at, put_length, put_tag, tag_at, KEY, MOST_BYTES};
 
 const TO_HOUSE: [(u64, u64, i64); 12] = [
@@ -102,6 +103,11 @@ fn refusal_with(tag: u64, value: &[u8], times: usize) -> usize {
     items.resize(items.len() + times, (tag, value.to_vec()));
     let mut comparer = Comparer::new(Twin::TRUE);
     must_hold(comparer.read(&packet_of(&items), ALL, 512));
+    the_refusal(&comparer)
+}
+
+/// The number of the refusal that came, 0 if none did.
+fn the_refusal(comparer: &Comparer) -> usize {
     let refusals = comparer.tally.refusals;
     (1..22).find(|&number| refusals[number] > 0).unwrap_or(0)
 }
@@ -115,6 +121,63 @@ fn worked_limits() {
     assert_eq!(refusal_with(40, &[], 126), 6);
     assert_eq!(refusal_with(63, &[8], 1), 0);
     assert_eq!(refusal_with(63, &[9], 1), 14);
+}
+
+fn number(tag: u64, kind: u64, code: u64) -> Record<'static> {
+    Record {
+        tag,
+        kind,
+        code,
+        value: &[],
+    }
+}
+
+fn part(tag: u64, kind: u64, length: usize) -> Record<'static> {
+    Record {
+        value: &[7; 65_536][..length],
+        ..number(tag, kind, 0)
+    }
+}
+
+/// The worked packet's records with others among them.
+fn worked_records_with(other: Record<'static>, times: usize) -> Vec<Record<'static>> {
+    let mut records = vec![number(2, READING, 1), number(65, READING, 17)];
+    records.resize(2 + times, other);
+    // The writer works the checksum out, so no code of its row is wrong.
+    records.push(number(1, READING, u64::MAX));
+    records
+}
+
+#[test]
+fn worked_records() {
+    let records = worked_records_with(part(40, CARRIED, 0), 0);
+    let packet = packet_of(&worked_items());
+    assert_eq!(Twin::TRUE.written_records(&records, ALL), Ok(packet));
+    must_hold(Comparer::new(Twin::TRUE).write_rows(&records, ALL, |needed| needed));
+    let cases = [
+        (part(40, CARRIED, 0), 125, 0),
+        (part(40, CARRIED, 0), 126, 16),
+        (part(40, CARRIED, 65_535), 1, 3),
+        (part(40, CARRIED, 65_536), 1, 17),
+        (part(3, TEXT, 0), 1, 12),
+        (part(3, TEXT, 127), 1, 0),
+        (part(3, TEXT, 128), 1, 12),
+        (part(3, CARRIED, 1), 1, 17),
+        (number(63, READING, 8), 1, 0),
+        (number(63, READING, 9), 1, 14),
+        (number(63, READING, 256), 1, 17),
+        (number(26, MARK, 0), 1, 0),
+        (number(26, READING, 0x8000), 1, 17),
+        (number(39, MARK, 0), 1, 17),
+        (number(39, READING, 0x80), 1, 0),
+    ];
+    for (other, times, refusal) in cases {
+        let records = worked_records_with(other, times);
+        let mut comparer = Comparer::new(Twin::TRUE);
+        must_hold(comparer.write_rows(&records, ALL, |needed| needed));
+        let tag = other.tag;
+        assert_eq!(the_refusal(&comparer), refusal, "tag {tag}");
+    }
 }
 
 /// All scaled items at their longest value and carried ones up to 128 items, from place 1,000 on but for two.

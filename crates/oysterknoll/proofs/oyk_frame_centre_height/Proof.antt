@@ -2,7 +2,7 @@
 -- Assumes nothing.
 use mathlib.Core.Path.{ap, _∙_}
 use borrow.Author.Needs.{needs}
-use Rattle.oysterknoll.specs.Answers.{saying, heightAnswer}
+use Rattle.oysterknoll.specs.Answers.{heightAnswer}
 use Rattle.oysterknoll.proofs.oyk_frame_centre_height.Statement.{statement}
 use Rattle.oysterknoll.proofs.oyk_frame_centre_height.Tie as tie
 
@@ -13,8 +13,7 @@ height-found-requires : tie.Need-height-found-requires
 height-found-requires c κs = search needs
 
 returns : tie.Need-returns
-returns c = c .height-found .ensures ∙ ap (saying heightAnswer) (c .before .frame-centre-height .ensures)
+returns c = c .height-found .ensures ∙ ap heightAnswer (c .before .frame-centre-height .ensures)
 
 pub oyk-frame-centre-height-spec : {M : Type 1} → statement M
-oyk-frame-centre-height-spec =
-    tie.close (tie.spec frame-centre-height-requires height-found-requires returns)
+oyk-frame-centre-height-spec = tie.close (tie.spec frame-centre-height-requires height-found-requires returns)

@@ -1,9 +1,9 @@
 -- `oysterknoll::oyk_read` meets its contract.
 -- Assumes nothing.
-use mathlib.Core.Path.{_∙_}
+use mathlib.Core.Path.{ap, _∙_}
 use borrow.Author.Needs.{needs}
 use Rattle.reader.specs.Reads.{readSaid}
-use Rattle.oysterknoll.specs.Answers.{filling}
+use Rattle.oysterknoll.specs.Answers.{counting, rowsAnswer}
 use Rattle.oysterknoll.proofs.Said.{said}
 use Rattle.oysterknoll.proofs.oyk_read.Statement.{statement}
 use Rattle.oysterknoll.proofs.oyk_read.Tie as tie
@@ -11,8 +11,8 @@ use Rattle.oysterknoll.proofs.oyk_read.Tie as tie
 read-requires : tie.Need-read-requires
 read-requires c κs = search needs
 
-enum-known-refusal : tie.Need-enum-known-refusal
-enum-known-refusal c = search needs
+enum-known-cause : tie.Need-enum-known-cause
+enum-known-cause c = search needs
 
 refused-requires : tie.Need-refused-requires
 refused-requires c κs = search needs
@@ -20,16 +20,13 @@ refused-requires c κs = search needs
 enum-known-filled : tie.Need-enum-known-filled
 enum-known-filled c = search needs
 
-counted-requires : tie.Need-counted-requires
-counted-requires c κs = search needs
-
 same-length : tie.Need-same-length
 same-length c = search needs
 
 returns : tie.Need-returns
 returns c = (
-  c .refused .ensures
-      ∙ said filling readSaid (c .before .before .refusal .given .1) (c .before .before .before .before .before .before .read .ensures .answer),
+  ap (λ x. counting x 0) (c .refused .ensures)
+      ∙ said rowsAnswer readSaid (c .before .before .cause .given .1) (c .before .before .before .before .before .before .read .ensures .answer),
   c .before .before .before .before .before .before .read .ensures .table,
 )
 
@@ -38,21 +35,9 @@ same-length-2 c = search needs
 
 returns-2 : tie.Need-returns-2
 returns-2 c = (
-  c .counted .ensures
-      ∙ said filling readSaid (c .before .before .filled .given .1) (c .before .before .before .before .before .before .read .ensures .answer),
-  c .before .before .before .before .before .before .read .ensures .table,
+  said rowsAnswer readSaid (c .before .filled .given .1) (c .before .before .before .before .before .read .ensures .answer),
+  c .before .before .before .before .before .read .ensures .table,
 )
 
 pub oyk-read-spec : {M : Type 1} → statement M
-oyk-read-spec =
-    tie.close
-    (tie.spec
-    read-requires
-    enum-known-refusal
-    refused-requires
-    enum-known-filled
-    counted-requires
-    same-length
-    returns
-    same-length-2
-    returns-2)
+oyk-read-spec = tie.close (tie.spec read-requires enum-known-cause refused-requires enum-known-filled same-length returns same-length-2 returns-2)

@@ -7,7 +7,7 @@ use mir.Val.{SFits}
 use mir.Syntax.{w64}
 use borrow.Author.Needs.{needs}
 use Rattle.scale.specs.Said.{houseSaid}
-use Rattle.oysterknoll.specs.Answers.{measuring, valuing}
+use Rattle.oysterknoll.specs.Answers.{nothing, valuing, valueAnswer}
 use Rattle.oysterknoll.proofs.Said.{said}
 use Rattle.oysterknoll.proofs.oyk_to_house.Statement.{statement}
 use Rattle.oysterknoll.proofs.oyk_to_house.Tie as tie
@@ -15,8 +15,8 @@ use Rattle.oysterknoll.proofs.oyk_to_house.Tie as tie
 to-house-requires : tie.Need-to-house-requires
 to-house-requires c κs = search needs
 
-enum-known-refusal : tie.Need-enum-known-refusal
-enum-known-refusal c = search needs
+enum-known-cause : tie.Need-enum-known-cause
+enum-known-cause c = search needs
 
 refused-requires : tie.Need-refused-requires
 refused-requires c κs = search needs
@@ -24,27 +24,16 @@ refused-requires c κs = search needs
 enum-known-house : tie.Need-enum-known-house
 enum-known-house c = search needs
 
-measured-requires : tie.Need-measured-requires
-measured-requires c κs = search needs
-
 returns : tie.Need-returns
-returns c = c .refused .ensures ∙ said valuing houseSaid (c .before .before .refusal .given .1) (c .before .before .before .before .to-house .ensures)
+returns c =
+    ap (λ x. valuing x (pos 0)) (c .refused .ensures)
+    ∙ said valueAnswer houseSaid (c .before .before .cause .given .1) (c .before .before .before .before .to-house .ensures)
 
 returns-2 : tie.Need-returns-2
 returns-2 c =
-    let fits : SFits w64 (c .before .before .before .house .given .0 .0 .value) = search needs in
-    c .measured .ensures
-    ∙ (ap (λ v. measuring 0 v (pos 0)) (toZ-ofZ fits)
-    ∙ said valuing houseSaid (c .before .before .before .house .given .1) (c .before .before .before .before .before .to-house .ensures))
+    let fits : SFits w64 (c .before .before .house .given .0 .0 .value) = search needs in
+    ap (valuing nothing) (toZ-ofZ fits)
+    ∙ said valueAnswer houseSaid (c .before .before .house .given .1) (c .before .before .before .before .to-house .ensures)
 
 pub oyk-to-house-spec : {M : Type 1} → statement M
-oyk-to-house-spec =
-    tie.close
-    (tie.spec
-    to-house-requires
-    enum-known-refusal
-    refused-requires
-    enum-known-house
-    measured-requires
-    returns
-    returns-2)
+oyk-to-house-spec = tie.close (tie.spec to-house-requires enum-known-cause refused-requires enum-known-house returns returns-2)

@@ -10,7 +10,7 @@ number-of-requires : tie.Need-number-of-requires
 number-of-requires c κs = search needs
 
 returns : tie.Need-returns
-returns c = ap (λ n. refusing n (c .before .args .refusal .place) (c .before .args .refusal .tag)) (c .number-of .ensures)
+returns c = ap (λ n. refusing n (c .before .args .cause .place) (c .before .args .cause .tag)) (c .number-of .ensures)
 
 pub refused-spec : {M : Type 1} → statement M
 refused-spec = tie.close (tie.spec number-of-requires returns)

@@ -1,15 +1,10 @@
 -- `rows::content_of` meets its contract.
 -- Assumes nothing.
-use borrow.Author.Needs.{needs}
-use mathlib.Core.Path.{sym, ap, _∙_}
+use mathlib.Core.Path.{sym, ap}
 use Rattle.rows.specs.Taken.{contentOf}
-use Rattle.rows.specs.declared.Content.the-variants.{Text, Carried}
 use Rattle.rows.proofs.Laws.{says-reading, says-mark, says-text, says-carried}
 use Rattle.rows.proofs.content_of.Statement.{statement}
 use Rattle.rows.proofs.content_of.Tie as tie
-
-part-of-requires : tie.Need-part-of-requires
-part-of-requires c κs = search needs
 
 returns : tie.Need-returns
 returns c = sym (ap contentOf (says-reading _ _ _ _ (c .if1 .taken)))
@@ -18,14 +13,10 @@ returns-2 : tie.Need-returns-2
 returns-2 c = sym (ap contentOf (says-mark _ _ _ _ (c .before .if1 .left) (c .if2 .taken)))
 
 returns-3 : tie.Need-returns-3
-returns-3 c =
-    ap Text (c .before .before .before .part-of .ensures)
-    ∙ sym (ap contentOf (says-text _ _ _ _ (c .before .before .if1 .left) (c .before .if2 .left) (c .if3 .taken)))
+returns-3 c = sym (ap contentOf (says-text _ _ _ _ (c .before .before .if1 .left) (c .before .if2 .left) (c .if3 .taken)))
 
 returns-4 : tie.Need-returns-4
-returns-4 c =
-    ap Carried (c .before .before .before .part-of .ensures)
-    ∙ sym (ap contentOf (says-carried _ _ _ _ (c .before .before .if1 .left) (c .before .if2 .left) (c .if3 .left)))
+returns-4 c = sym (ap contentOf (says-carried _ _ _ _ (c .before .before .if1 .left) (c .before .if2 .left) (c .if3 .left)))
 
 pub content-of-spec : {M : Type 1} → statement M
-content-of-spec = tie.close (tie.spec part-of-requires returns returns-2 returns-3 returns-4)
+content-of-spec = tie.close (tie.spec returns returns-2 returns-3 returns-4)

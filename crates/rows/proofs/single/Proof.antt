@@ -8,11 +8,14 @@ use Rattle.rows.proofs.single.Tie as tie
 is-good-row-requires : tie.Need-is-good-row-requires
 is-good-row-requires c κs = search needs
 
+part-of-requires : tie.Need-part-of-requires
+part-of-requires c κs = search needs
+
 content-of-requires : tie.Need-content-of-requires
 content-of-requires c κs = search needs
 
 returns : tie.Need-returns
-returns c = rw (← c .before .before .is-good-row .ensures, c .before .if1 .taken, c .content-of .ensures)
+returns c = rw (← c .before .before .before .is-good-row .ensures, c .before .before .if1 .taken, c .content-of .ensures, c .before .part-of .ensures)
 
 tag-shown-requires : tie.Need-tag-shown-requires
 tag-shown-requires c κs = search needs
@@ -28,6 +31,7 @@ single-spec =
     tie.close
     (tie.spec
     is-good-row-requires
+    part-of-requires
     content-of-requires
     returns
     tag-shown-requires

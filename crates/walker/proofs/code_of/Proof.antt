@@ -1,0 +1,42 @@
+-- `walker::code_of` meets its contract.
+-- Assumes nothing.
+use mathlib.Core.Path.{refl, sym, _∙_}
+use borrow.Author.Needs.{needs}
+use Rattle.walker.proofs.Rows.{code-by, number-code}
+use Rattle.walker.proofs.code_of.Statement.{statement}
+use Rattle.walker.proofs.code_of.Tie as tie
+
+enum-told : tie.Need-enum-told
+enum-told c = search needs
+
+enum-told-2 : tie.Need-enum-told-2
+enum-told-2 c = search needs
+
+enum-told-3 : tie.Need-enum-told-3
+enum-told-3 c = search needs
+
+value-requires : tie.Need-value-requires
+value-requires c κs = search needs
+
+returns : tie.Need-returns
+returns c = code-by _ _ _ _ (c .enum-told .given .1) refl
+
+returns-2 : tie.Need-returns-2
+returns-2 c = code-by _ _ _ _ (c .enum-told2 .given .1) refl
+
+returns-3 : tie.Need-returns-3
+returns-3 c =
+    let number = c .before .enum-told3 .given .0 in
+    code-by _ _ _ _ (c .before .enum-told3 .given .1) (c .value .ensures ∙ sym (number-code (number .0) (number .1 .0) _))
+
+pub code-of-spec : {M : Type 1} → statement M
+code-of-spec =
+    tie.close
+    (tie.spec
+    enum-told
+    enum-told-2
+    enum-told-3
+    value-requires
+    returns
+    returns-2
+    returns-3)

@@ -1,0 +1,132 @@
+use crate::raw;
+use crate::rows::WORDS_A_ROW;
+use crate::{Content, Knowing, Refusal, Row, LONGEST_PACKET, TABLE_WORDS};
+
+/// Writes the `count` rows in `words` as a packet at the front of `out`, and answers its number of bytes.
+///
+/// Text and carried rows point into `buffer`. The order of the rows is kept, lengths take their shortest form, and the checksum is
+/// worked out afresh. Bytes after the packet stay; a refusal changes nothing.
+///
+/// # Errors
+///
+/// The writer's refusals: 1, 16, 17, 3, 9, 10, 12 to 15 and 18, in this order; the place is a row number.
+///
+/// # Example
+///
+/// ```
+/// use oysterknoll::{read, write, Knowing, LONGEST_PACKET, TABLE_WORDS};
+///
+/// let packet = include_bytes!("../../samples/relayed.klv");
+/// let mut table = [0; TABLE_WORDS];
+/// let rows = read(packet, Knowing::ALL, &mut table)?;
+/// let mut out = [0; LONGEST_PACKET];
+/// let size = write(rows.words(), rows.len(), packet, Knowing::ALL, &mut out)?;
+/// assert_eq!(&out[..size], include_bytes!("../../samples/tower.klv"));
+/// # Ok::<(), oysterknoll::Refusal>(())
+/// ```
+pub fn write(
+    words: &[u64],
+    count: usize,
+    buffer: &[u8],
+    knowing: Knowing,
+    out: &mut [u8],
+) -> Result<usize, Refusal> {
+    let answer = raw::write(words, count, buffer, knowing, out);
+    answer.refusal.or(answer.size)
+}
+
+/// Writes these rows as a packet at the front of `out`, and answers its number of bytes: [`write()`] without words and places.
+///
+/// The first row is the time stamp and the last the checksum, whose code is worked out whatever the row says; the version is among
+/// them. Words and values are put together on the stack, which takes 12 KB beside what the library needs.
+///
+/// # Errors
+///
+/// The writer's refusals: 1, 16, 17, 3, 9, 10, 12 to 15 and 18, in this order; the place is a row number. A text or carried value of
+/// 65,536 bytes or more has no row in words and is a bad row.
+///
+/// # Example
+///
+/// ```
+/// use oysterknoll::{check, to_code, write_rows, Content, Knowing, Row, LONGEST_PACKET};
+///
+/// let rows = [
+///     Row { tag: 2, content: Content::Reading(1_779_178_530_250_000) }, // microseconds
+///     Row { tag: 65, content: Content::Reading(17) },
+///     Row { tag: 3, content: Content::Text(b"TOWER 17 NORTH") },
+///     Row { tag: 13, content: Content::Reading(to_code(13, 468_995_000)?) }, // 46.8995 degrees
+///     Row { tag: 1, content: Content::Reading(0) },
+/// ];
+/// let mut out = [0; LONGEST_PACKET];
+/// let size = write_rows(&rows, Knowing::ALL, &mut out)?;
+/// assert_eq!(check(&out[..size], Knowing::ALL), Ok(5));
+/// # Ok::<(), oysterknoll::Refusal>(())
+/// ```
+pub fn write_rows(rows: &[Row<'_>], knowing: Knowing, out: &mut [u8]) -> Result<usize, Refusal> {
+    let mut room = [0; LONGEST_PACKET];
+    let mut words = [[0; WORDS_A_ROW]; MOST_ROWS];
+    // Values that are longer together than the longest packet fit none: what is refused is then the same wherever they stand, and each
+    // is said to stand at the front of the longest value.
+    let fit = copy_values(rows, &mut room).is_some();
+    let buffer = if fit { &room } else { longest_value(rows) };
+    let mut place = 0;
+    for (image, row) in words.iter_mut().zip(rows) {
+        *image = image_of(row, place);
+        if fit {
+            place = value_of(row).len().saturating_add(place);
+        }
+    }
+    write(words.as_flattened(), rows.len(), buffer, knowing, out)
+}
+
+/// The rows that a table has room for. More are refused by their count, whatever they are.
+const MOST_ROWS: usize = TABLE_WORDS / WORDS_A_ROW;
+
+/// A kind that no receiver gives a tag: a row of it is bad.
+const NO_KIND: u64 = 0;
+
+/// The bytes of a text or carried value. A number has none, since its code stands in the row.
+fn value_of<'a>(row: &Row<'a>) -> &'a [u8] {
+    match row.content {
+        Content::Text(bytes) | Content::Carried(bytes) => bytes,
+        Content::Reading(_) | Content::Mark => &[],
+    }
+}
+
+/// Puts the values one after the other into the room, if they all fit.
+fn copy_values(rows: &[Row<'_>], mut room: &mut [u8]) -> Option<()> {
+    for value in rows.iter().take(MOST_ROWS).map(value_of) {
+        let (part, rest) = room.split_at_mut_checked(value.len())?;
+        part.copy_from_slice(value);
+        room = rest;
+    }
+    Some(())
+}
+
+fn longest_value<'a>(rows: &[Row<'a>]) -> &'a [u8] {
+    let values = rows.iter().map(value_of);
+    values.max_by_key(|value| value.len()).unwrap_or_default()
+}
+
+/// The four words of a row whose text or carried value stands at the place. A number has the catalogue's length and place 0.
+fn image_of(row: &Row<'_>, place: usize) -> [u64; WORDS_A_ROW] {
+    let tag = row.tag;
+    let width = raw::item(tag).width;
+    let (kind, code, place, length) = match row.content {
+        Content::Reading(code) => (raw::READING, code, 0, width),
+        Content::Mark => (raw::MARK, mark_code(width), 0, width),
+        Content::Text(bytes) => (raw::TEXT, 0, place, bytes.len()),
+        Content::Carried(bytes) => (raw::CARRIED, 0, place, bytes.len()),
+    };
+    match u16::try_from(length) {
+        Ok(length) => [tag, kind, code, (place as u64) << 16 | u64::from(length)],
+        Err(_) => [tag, NO_KIND, 0, 0],
+    }
+}
+
+/// The code of so many bytes with only the top bit set; 0 where there are none.
+fn mark_code(width: usize) -> u64 {
+    let bits = width.saturating_mul(8) as u32;
+    let top = 1 << (u64::BITS - 1);
+    u64::checked_shr(top, u64::BITS.saturating_sub(bits)).unwrap_or(0)
+}
