@@ -1,5 +1,4 @@
 pub mod Same
 pub mod Laws
-pub mod Signs
 pub mod Columns
 pub mod Outcomes

@@ -4,8 +4,6 @@ use mathlib.Core.Path.{sym, _∙_}
 use Rattle.base.specs.Determined.{Answered}
 use Rattle.catalogue.proofs.all_tags.Kinds as all-tags-kinds
 use Rattle.catalogue.proofs.all_tags.Reads as all-tags-reads
-use Rattle.catalogue.proofs.item_of.Kinds as item-of-kinds
-use Rattle.catalogue.proofs.item_of.Reads as item-of-reads
 use Rattle.catalogue.proofs.shapes.Kinds as shapes-kinds
 use Rattle.catalogue.proofs.shapes.Reads as shapes-reads
 use Rattle.catalogue.proofs.shape_at.Kinds as shape-at-kinds
@@ -19,9 +17,6 @@ use Rattle.catalogue.proofs.allows_code.Reads as allows-code-reads
 
 pub all-tags-determined : Answered 0 all-tags-kinds.ps all-tags-kinds.r all-tags-reads.Post
 all-tags-determined κs a z z′ e e′ p q = p ∙ sym q
-
-pub item-of-determined : Answered 0 item-of-kinds.ps item-of-kinds.r item-of-reads.Post
-item-of-determined κs a z z′ e e′ p q = p ∙ sym q
 
 pub shapes-determined : Answered 0 shapes-kinds.ps shapes-kinds.r shapes-reads.Post
 shapes-determined κs a z z′ e e′ p q = p ∙ sym q

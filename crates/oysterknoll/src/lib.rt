@@ -498,7 +498,7 @@ fn listed(item: Item, unit: u64) -> ItemAnswer
 pub extern "C" fn oyk_item(tag: u64) -> ItemAnswer
     ensures { λ r. ⌜ r ≡ itemAnswer (itemOf tag) (unitOf tag) ⌝ }
 {
-    match catalogue::item_of(tag) {
+    match items::item_of(tag) {
         Found::Known(item) => listed(item, units::number_of(units::unit_of(tag))),
         Found::Absent => ItemAnswer {
             stored: NOT_LISTED,

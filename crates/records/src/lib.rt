@@ -47,7 +47,7 @@ fn blank() -> [u64; 512]
 fn width_of(tag: u64) -> usize
     ensures { λ r. ⌜ r ≡ widthOf tag ⌝ }
 {
-    match catalogue::item_of(tag) {
+    match items::item_of(tag) {
         Found::Known(item) => item.width,
         Found::Absent => 0,
     }

@@ -87,7 +87,7 @@ fn refuse(reason: Reason, tag: u64) -> Refusal
 fn scaled_item(tag: u64) -> Found
     ensures { λ r. ⌜ r ≡ scaledItem tag ⌝ }
 {
-    match catalogue::item_of(tag) {
+    match items::item_of(tag) {
         Found::Known(item) => {
             if item.low < item.high {
                 return Found::Known(item);

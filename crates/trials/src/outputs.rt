@@ -5,7 +5,6 @@ use crate::text::sized;
 use console::refused;
 use libc::STDOUT_FILENO;
 use listing::Listing;
-use rows::Content;
 use rows::Part;
 use rows::Row;
 use writer::Writing;
@@ -40,27 +39,18 @@ fn listed(answer: Listing) {
     }
 }
 
-fn content_of(kind: u64, first: u64, second: u64) -> Content {
-    let part = Part {
-        place: first as usize,
-        length: second as usize,
-    };
-    match kind {
-        1 => Content::Reading(first),
-        2 => Content::Mark,
-        3 => Content::Text(part),
-        _ => Content::Carried(part),
-    }
-}
-
-// The record that four words are.
+// The record that four words are: tag, kind, and a code or a place with a length.
 fn record_of(words: &[u64; 16], at: usize) -> Row
     requires { ⌜ at ≤ 12 ⌝ }
 {
-    let content = content_of(words[at + 1], words[at + 2], words[at + 3]);
+    let code = words[at + 2];
+    let part = Part {
+        place: code as usize,
+        length: words[at + 3] as usize,
+    };
     Row {
         tag: words[at],
-        content,
+        content: rows::content_of(words[at + 1], code, part),
     }
 }
 

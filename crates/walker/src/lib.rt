@@ -98,7 +98,7 @@ fn shape_of(known: TagSet, tag: u64) -> Shape
     ensures { λ r. ⌜ r ≡ shapeFor (holds known) tag ⌝ }
 {
     if tagset::has(known, tag) {
-        return match catalogue::item_of(tag) {
+        return match items::item_of(tag) {
             Listed::Absent => Shape::Absent,
             Listed::Known(item) => {
                 let width = item.width;

@@ -1,4 +1,4 @@
--- `catalogue::row_of` meets its contract: each arm reads the row of its tag.
+-- `items::row_of` meets its contract: each arm reads the row of its tag.
 -- Assumes nothing.
 use Prim.Native.Nat.{ℕ, zero, suc, _≤_, _<_}
 use borrow.Author.Needs.{needs}
@@ -15,12 +15,12 @@ use Rattle.base.specs.Every.{allBelow}
 use Rattle.base.proofs.Every.{all-below, both-left, both-right}
 use Rattle.tagset.specs.Sets.{holds, countBelow}
 use Rattle.tagset.proofs.Laws.{holds-none}
 use Rattle.catalogue.specs.Items.{groups, member, itemIn, itemOf}
 use Rattle.catalogue.specs.Rows.{rowsFrom, rows, entryAt, allTags}
 use Rattle.catalogue.specs.declared.Entry.{Entry}
 use Rattle.catalogue.proofs.Laws.{all-words}
-use Rattle.catalogue.proofs.row_of.Statement.{statement}
-use Rattle.catalogue.proofs.row_of.Tie as tie
+use Rattle.items.proofs.row_of.Statement.{statement}
+use Rattle.items.proofs.row_of.Tie as tie
 
 -- the tags in the order of the arms, each at its place
 abbrev tags : List ℕ

@@ -1,13 +1,13 @@
--- `catalogue::sign_of` meets its contract.
+-- `items::sign_of` meets its contract.
 -- Assumes nothing.
 use borrow.Author.Needs.{needs}
 use lib.IntN.{_+ℤ_}
 use mir.Syntax.{w64}
 use mir.Val.{SFits}
 use mir.Facts.{toZ-ofZ}
-use Rattle.catalogue.proofs.Signs.{zero-bits, other-bits}
-use Rattle.catalogue.proofs.sign_of.Statement.{statement}
-use Rattle.catalogue.proofs.sign_of.Tie as tie
+use Rattle.items.proofs.Signs.{zero-bits, other-bits}
+use Rattle.items.proofs.sign_of.Statement.{statement}
+use Rattle.items.proofs.sign_of.Tie as tie
 
 add-middle : tie.Need-add-middle
 add-middle c = search needs

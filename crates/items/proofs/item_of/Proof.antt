@@ -1,14 +1,14 @@
--- `catalogue::item_of` meets its contract.
+-- `items::item_of` meets its contract.
 -- Assumes nothing.
 use borrow.Author.Needs.{needs}
 use mathlib.Core.Bool.{true}
 use mathlib.Core.Path.{_≡_, sym, ap, _∙_}
 use mir.Facts.{toZ-ofZ}
 use Rattle.tagset.specs.Sets.{holds}
 use Rattle.catalogue.specs.Rows.{allTags}
 use Rattle.catalogue.proofs.Laws.{item-held, item-none}
-use Rattle.catalogue.proofs.item_of.Statement.{statement}
-use Rattle.catalogue.proofs.item_of.Tie as tie
+use Rattle.items.proofs.item_of.Statement.{statement}
+use Rattle.items.proofs.item_of.Tie as tie
 
 all-tags-requires : tie.Need-all-tags-requires
 all-tags-requires c κs = search needs
