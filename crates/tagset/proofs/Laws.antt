@@ -1,18 +1,19 @@
 -- What the two words mean as a set: `holds` by the words, and `within` as inclusion.
 -- Assumes nothing.
-use Prim.Native.Nat.{ℕ, _+_, _-_, _%_, _^_, _<_, _≤_}
+use Prim.Native.Nat.{ℕ, zero, suc, _+_, _-_, _%_, _^_, _<_, _≤_}
 use native.Mathlib.Omega.{arith}
-use mathlib.Core.Path.{_≡_, ap, sym, _∙_}
-use mathlib.Core.Bool.{true, false, not, _||_}
+use mathlib.Core.Path.{_≡_, refl, ap, sym, _∙_}
+use mathlib.Core.Bool.{true, false, not, _&&_, _||_}
 use lib.Dec.{eqb}
-use lib.Bits.{bitAnd, bitOr, or-lt}
-use lib.Pow.{pow-lt}
+use lib.Bits.{bitAnd, bitOr, or-lt, and-lt, and-comm, and-zero-l}
+use native.Mathlib.Nat.{div-eq-of-lt}
+use lib.Pow.{pow-lt, pow-pos}
 use borrow.Author.Tests.{eq-eqb, eqb-true, lt-ltb, le-ltb}
 use Rattle.base.proofs.Cases.{byLt, clash, unless, unless-true}
-use Rattle.base.proofs.Every.{all-below, below-all}
-use Rattle.tagset.specs.Sets.{holds, within, withTag}
+use Rattle.base.proofs.Every.{all-below, below-all, both-left, both-right}
+use Rattle.tagset.specs.Sets.{noTags, holds, within, withTag, meet, same}
 use Rattle.tagset.specs.declared.TagSet.{TagSet}
-use Rattle.tagset.proofs.Words.{set-bit, other-bit, bit, low-bit, high-bit, no-bit, masked-bits, bits-masked}
+use Rattle.tagset.proofs.Words.{set-bit, other-bit, bit, bit-small, and-bit, low-bit, high-bit, no-bit, masked-bits, bits-masked}
 
 -- each is a word of 64 bits
 pub record Words (s : TagSet) : Type 0 where
@@ -31,6 +32,14 @@ module _ (s : TagSet) (w : Words s) (t : ℕ) where
   pub holds-none : 128 ≤ t → holds s t ≡ false
   unfolding holds
   holds-none h = ap (λ x. eqb (x % 2) 1) (no-bit (s .high) (s .low) (w .low64) t h (w .high64))
+
+-- no tag
+pub no-words : Words noTags
+no-words = record { low64 = omega arith; high64 = omega arith }
+
+pub no-tags : (t : ℕ) → holds noTags t ≡ false
+unfolding holds
+no-tags t = ap (λ x. eqb (x % 2) 1) (div-eq-of-lt (pow-pos t))
 
 -- inclusion
 pub record Included (s of : TagSet) : Type 0 where
@@ -120,3 +129,47 @@ module _ (s : TagSet) (w : Words s) (t : ℕ) where
       (λ k. holds-low _ v u k ∙ sym (holds-low s w u k))
       (λ k. holds-high _ v u k ∙ (ap (λ x. eqb x 1) (other-bit (s .high) (t - 64) (u - 64) (λ e. other (omega arith))) ∙ sym (holds-high s w u k)))))
       (λ m. rw (with-none m)))
+
+-- the tags that both hold
+and-bits : (x y : ℕ) → x < 2 → y < 2 → eqb (bitAnd x y) 1 ≡ eqb x 1 && eqb y 1
+and-bits zero y h k = ap (λ z. eqb z 1) (and-zero-l y)
+and-bits (suc zero) zero h k = refl
+and-bits (suc zero) (suc zero) h k = refl
+and-bits (suc zero) (suc (suc y)) h k = absurd (omega arith)
+and-bits (suc (suc x)) y h k = absurd (omega arith)
+
+both-hold : (v w k : ℕ) → eqb (bit (bitAnd v w) k) 1 ≡ eqb (bit v k) 1 && eqb (bit w k) 1
+both-hold v w k = ap (λ x. eqb x 1) (and-bit v w k) ∙ and-bits (bit v k) (bit w k) (bit-small v k) (bit-small w k)
+
+module _ (s of : TagSet) (ws : Words s) (wo : Words of) where
+  pub meet-words : Words (meet s of)
+  unfolding meet
+  meet-words = record { low64 = and-lt 64 (s .low) (of .low) (ws .low64) (wo .low64); high64 = and-lt 64 (s .high) (of .high) (ws .high64) (wo .high64) }
+
+  pub meet-holds : (t : ℕ) → holds (meet s of) t ≡ holds s t && holds of t
+  unfolding meet
+  meet-holds t =
+      byLt t 64
+      (λ h. holds-low _ meet-words t h ∙ (both-hold (s .low) (of .low) t ∙ sym (rw (holds-low s ws t h, holds-low of wo t h))))
+      (λ h. holds-high _ meet-words t h ∙ (both-hold (s .high) (of .high) (t - 64) ∙ sym (rw (holds-high s ws t h, holds-high of wo t h))))
+
+-- sets that hold the same tags are the same words
+module _ (s of : TagSet) (ws : Words s) (wo : Words of) where
+  pub same-tags : ((t : ℕ) → holds s t ≡ holds of t) → s ≡ of
+  same-tags e =
+      let there = included-within s of (record { each = λ t h. sym (e t) ∙ h }) in
+      let back = included-within of s (record { each = λ t h. e t ∙ h }) in
+      let low : s .low ≡ of .low = sym (within-low s of ws wo there) ∙ (and-comm (s .low) (of .low) ∙ within-low of s wo ws back) in
+      let high : s .high ≡ of .high = sym (within-high s of ws wo there) ∙ (and-comm (s .high) (of .high) ∙ within-high of s wo ws back) in
+      λ k. record { low = low k; high = high k }
+
+pub same-true : (s of : TagSet) → same s of ≡ true → s ≡ of
+unfolding same
+same-true s of e =
+    let low = eqb-true (s .low) (of .low) (both-left (eqb (s .low) (of .low)) _ e) in
+    let high = eqb-true (s .high) (of .high) (both-right (eqb (s .low) (of .low)) _ e) in
+    λ k. record { low = low k; high = high k }
+
+pub true-same : (s : TagSet) → same s s ≡ true
+unfolding same
+true-same s = rw (eq-eqb (s .low) (s .low) refl, eq-eqb (s .high) (s .high) refl)

@@ -33,7 +33,7 @@ module _ (h l : ℕ) (l64 : l < 2 ^ 64) where
 abbrev pub bit : ℕ → ℕ → ℕ
 bit w k = w / 2 ^ k % 2
 
-bit-small : (w k : ℕ) → bit w k < 2
+pub bit-small : (w k : ℕ) → bit w k < 2
 bit-small w k = omega arith
 
 both-bits : (x y : ℕ) → x < 2 → y < 2 → bitAnd x y ≡ x → x ≡ 1 → y ≡ 1
@@ -93,3 +93,6 @@ set-bit w k =
 
 pub other-bit : (w k j : ℕ) → (j ≡ k → ⊥) → bit (bitOr w (2 ^ k)) j ≡ bit w j
 other-bit w k j other = or-bit w (2 ^ k) j ∙ (ap (bitOr (bit w j)) (pow-bit k j other) ∙ or-zero-r (bit w j))
+
+pub and-bit : (w v j : ℕ) → bit (bitAnd w v) j ≡ bitAnd (bit w j) (bit v j)
+and-bit w v j = ap (λ n. n % 2) (and-shr w v j) ∙ and-mod (w / 2 ^ j) (v / 2 ^ j) 1

@@ -1,7 +1,7 @@
-// Sets of tags below 128 as two words, tag t being bit t of the pair: a tag in it, a tag more, one set within another.
+// Sets of tags below 128 as two words, tag t being bit t of the pair: a tag in it, a tag more, one set within another, how many tags.
 // Each test is what the words mean as a set, for every tag of 64 bits.
 ghost use mathlib.Core.Path.{_≡_};
-ghost use Rattle.tagset.specs.Sets.{holds, within, withTag};
+ghost use Rattle.tagset.specs.Sets.{holds, within, withTag, size, meet, same};
 
 // The first word is bits 0 to 63.
 pub struct TagSet {
@@ -47,6 +47,33 @@ pub fn is_within(s: TagSet, of: TagSet) -> bool
 {
     if s.low & of.low == s.low {
         return s.high & of.high == s.high;
+    }
+    false
+}
+
+// How many tags the set holds: the set bits of its words.
+pub fn size_of(s: TagSet) -> usize
+    ensures { λ r. ⌜ r ≡ size s ⌝ }
+{
+    u64::count_ones(s.low) as usize + u64::count_ones(s.high) as usize
+}
+
+// The tags that both sets hold.
+pub fn meet_of(s: TagSet, of: TagSet) -> TagSet
+    ensures { λ r. ⌜ r ≡ meet s of ⌝ }
+{
+    TagSet {
+        low: s.low & of.low,
+        high: s.high & of.high,
+    }
+}
+
+// Whether both sets are the same two words.
+pub fn is_same(s: TagSet, of: TagSet) -> bool
+    ensures { λ r. ⌜ r ≡ same s of ⌝ }
+{
+    if s.low == of.low {
+        return s.high == of.high;
     }
     false
 }
