@@ -9,8 +9,9 @@
  * On Arm (aarch64) make it with "scripts/archive" and link target/staticlib/aarch64/liboysterknoll.a: the same proved source and the
  * same calls, compiled by another back end of LLVM.
  *
- * What each function answers is defined in the project's scope paper ("document 01") and proved of the code. examples/ has programs that
- * print the corners of a picture, build a packet from nothing, and read, change and write one.
+ * What each function answers is defined in the project's scope paper ("document 01") and its change requests ("document 02"), and proved of
+ * the code. examples/ has programs that print the corners of a picture, say which items are there, build a packet from nothing, and read,
+ * change and write one.
  *
  * Every input gets an answer. Nothing has to be true of a packet, a table of rows, a knowing set, a place, a tag, a code or a value
  * before it is given to a function: what is not accepted is refused by number, place and tag.
@@ -22,7 +23,7 @@
  *     length is 0.
  *   - What is lent as const is only read. Inputs may overlap each other; an output may not overlap any input.
  *   - On a refusal no memory lent changes, and none carries a part of the refusal: all of it is in the answer.
- *   - On x86-64 oyk_list takes 5,256 bytes of stack, and any other call at most 1,480 bytes.
+ *   - On x86-64 oyk_list takes 5,320 bytes of stack, and any other call at most 1,560 bytes.
  *
  * Knowing set
  *   Which items of the catalogue a receiver knows, as two words: tag t from 0 to 63 is bit t of low, tag t from 64 to 127 is bit t - 64
@@ -30,6 +31,19 @@
  *   bytes are handed on and not looked into. A receiver that does not know item 75, for example:
  *
  *     oyk_sensor_height(packet, length, OYK_KNOWS_ALL_LOW, OYK_KNOWS_ALL_HIGH & ~(UINT64_C(1) << (75 - 64)))
+ *
+ * Which items are there
+ *   oyk_check and oyk_read answer two words beside the count: tag t is bit t of the pair, as in a knowing set, and is set where a row of tag t
+ *   is not carried. Then oyk_has answers for a tag just what a scan of all rows would, and the number of set bits is the number of rows that
+ *   are not carried. A planner's screen that asks thirty times a second whether its packet has a frame centre (23 and 24) keeps the words of
+ *   one check, and needs neither a table nor a scan:
+ *
+ *     oyk_present present = oyk_check(packet, length, OYK_KNOWS_ALL_LOW, OYK_KNOWS_ALL_HIGH).present;
+ *     ...
+ *     if (oyk_has(present.low, present.high, 23) && oyk_has(present.low, present.high, 24))
+ *
+ *   A carried item sets no bit: the words of an older receiver, which does not know 23, lack it though the packet has such an item and hands
+ *   it on. They are the newer receiver's words within the older one's knowing set. A mark is there like any other known item.
  *
  * House units
  *   Values are whole numbers of 10^-7 degree, mm, mm/s, 0.001 mbar, 0.001 percent or 0.001 degree C. The items that have a scale, each
@@ -78,11 +92,11 @@ extern "C" {
 #endif
 
 /* The version of what this header and an archive say to each other: an archive that goes with it answers this number to oyk_version. */
-#define OYK_VERSION 1
+#define OYK_VERSION 2
 
 /* The words of a table that oyk_read fills: four for each of at most 128 rows. */
 #define OYK_TABLE_WORDS 512
-/* The bytes of the longest packet: an output of so many is never too short for oyk_write and oyk_forward. */
+/* The bytes of the longest packet: an output of so many is never too short for oyk_write, oyk_write_with and oyk_forward. */
 #define OYK_LONGEST_PACKET 8192
 /* No listing has more bytes: an output of so many is never too short for oyk_list. */
 #define OYK_LONGEST_LISTING 21781
@@ -119,6 +133,7 @@ extern "C" {
 #define OYK_REFUSED_ROW_COUNT_TOO_LARGE 16 /* row count over 128 or four times it over the words lent */
 #define OYK_REFUSED_ROW_BAD 17             /* bad row (see Rows above); its number, and its tag if that is 1 to 2,097,151 */
 #define OYK_REFUSED_OUTPUT_TOO_SHORT 18    /* output too short */
+#define OYK_REFUSED_WORDS_DISAGREE 22      /* words disagree: oyk_write_with is handed others than a scan of its rows gives */
 
 /* Of the conversions, each with the tag as given. */
 #define OYK_REFUSED_NO_SCALE 19           /* tag has no scale */
@@ -250,17 +265,24 @@ typedef struct oyk_row {
     size_t length; /* how many they are */
 } oyk_row;
 
+/* Which known items are there (see above). No bit is set where none is. */
+typedef struct oyk_present {
+    uint64_t low;  /* tag t from 0 to 63 is bit t */
+    uint64_t high; /* tag t from 64 to 127 is bit t - 64 */
+} oyk_present;
+
 /*
  * Answers. The refusal comes first in each that can be one; if its number is not 0, all that follows it is 0.
  */
 
-/* How many items or rows there are (oyk_check, oyk_read). */
+/* How many items or rows there are, and which known ones (oyk_check, oyk_read). */
 typedef struct oyk_count_answer {
     oyk_refusal refusal;
     size_t count;
+    oyk_present present;
 } oyk_count_answer;
 
-/* How many bytes were written at the front of the output (oyk_write, oyk_forward, oyk_list). */
+/* How many bytes were written at the front of the output (oyk_write, oyk_write_with, oyk_forward, oyk_list). */
 typedef struct oyk_size_answer {
     oyk_refusal refusal;
     size_t size;
@@ -324,14 +346,20 @@ typedef struct oyk_item_answer {
 /* The version that the archive was made for: OYK_VERSION, if it goes with this header. */
 uint64_t oyk_version(void);
 
-/* Judges a packet. count: the number of its items. Never refusal 2. */
+/* Judges a packet. count: the number of its items; present: which known ones are there. Never refusal 2. */
 oyk_count_answer oyk_check(const uint8_t *packet, size_t packet_len, uint64_t low, uint64_t high);
 
 /*
- * Reads a packet into a table of at least 512 words. count: the number of rows. The table is filled row after row (see Rows above), and
- * the rest of its first 512 words is set to 0; words beyond stay.
+ * Reads a packet into a table of at least 512 words. count: the number of rows; present: which known items are there. The table is filled row
+ * after row (see Rows above), and the rest of its first 512 words is set to 0; words beyond stay.
  */
 oyk_count_answer oyk_read(const uint8_t *packet, size_t packet_len, uint64_t low, uint64_t high, uint64_t *table, size_t table_len);
+
+/*
+ * Whether an item is there: 1 where the bit of the tag is set in the two words, else 0. Any tag may be asked for; from 128 on there is none.
+ * Nothing but the words is looked at: neither packet nor table has to be kept.
+ */
+uint64_t oyk_has(uint64_t present_low, uint64_t present_high, uint64_t tag);
 
 /*
  * Takes row n, from 0, out of the count rows in words. The buffer is what text and carried rows point into: the packet, if the rows
@@ -365,6 +393,14 @@ oyk_next_answer oyk_next(const uint8_t *packet, size_t packet_len, uint64_t low,
  */
 oyk_size_answer oyk_write(const uint64_t *words, size_t words_len, size_t count, const uint8_t *buffer, size_t buffer_len, uint64_t low,
                           uint64_t high, uint8_t *out, size_t out_len);
+
+/*
+ * Writes as oyk_write does, handed beside the rows the words that say which items are there. They have to be just those that a scan of the
+ * rows gives, which is what oyk_read answered if the rows are as it left them: others, a bit too many like one too few, are refused by 22. That
+ * comes straight after 17, so before a packet that is too long. Of a known tag that stands twice the scan sets the bit once.
+ */
+oyk_size_answer oyk_write_with(const uint64_t *words, size_t words_len, size_t count, const uint8_t *buffer, size_t buffer_len,
+                               uint64_t low, uint64_t high, uint64_t present_low, uint64_t present_high, uint8_t *out, size_t out_len);
 
 /*
  * Sends a packet on: reads it, and writes all its rows at the front of the output. size: the number of bytes written.

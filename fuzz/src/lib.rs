@@ -20,6 +20,8 @@ pub mod same;
 pub mod twin;
 #[path = "../../rust/tests/differential/twin_answers.rs"]
 pub mod twin_answers;
+#[path = "../../rust/tests/differential/twin_present.rs"]
+pub mod twin_present;
 #[path = "../../rust/tests/differential/twin_records.rs"]
 pub mod twin_records;
 #[path = "../../rust/tests/differential/twin_write.rs"]
@@ -126,7 +128,10 @@ impl Target {
         let comparer = &mut self.comparer;
         let roomy = |needed| near(needed, room);
         match function {
-            4 => comparer.check(packet, set),
+            4 => comparer
+                .check(packet, set)
+                .and_then(|()| comparer.asked(packet, set, (0..=300).chain([k])))
+                .and_then(|()| comparer.has(set, k)),
             5 => comparer
                 .read(packet, set, roomy(512).min(MOST_TABLE))
                 .and_then(|()| comparer.items(packet, set)),
@@ -140,8 +145,8 @@ impl Target {
         stays(packet == made)
     }
 
-    /// A row taken out, or all of them written, as words and as records. The count comes first: 0 for as many as there are words for, else
-    /// one more than it is.
+    /// A row taken out, or all of them written, as words, with and without saying which items are there, and as records. The count comes
+    /// first: 0 for as many as there are words for, else one more than it is.
     fn ask_of_rows(
         &mut self,
         single: bool,
@@ -166,6 +171,8 @@ impl Target {
         } else {
             comparer
                 .write(lent, roomy)
+                .and_then(|()| comparer.write_with(lent, table::handed(lent, 0), roomy))
+                .and_then(|()| comparer.write_with(lent, table::handed(lent, n), roomy))
                 .and_then(|()| comparer.write_rows(&table::records(words, buffer), set, roomy))
         }?;
         stays(words == words_made && buffer == buffer_made)

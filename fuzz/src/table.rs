@@ -1,9 +1,10 @@
-//! The words and the buffer that an input lends to the writer, and the records that they are.
+//! The words and the buffer that an input lends to the writer, what it is handed beside them, and the records that they are.
 
 use crate::input::Input;
 use crate::packet::packet;
 use crate::twin::{Row, Twin, CARRIED, MARK, READING, TEXT};
 use crate::twin_records::Record;
+use crate::twin_write::Rows;
 
 /// More than the rows of a table can have.
 const MOST_WORDS: u64 = 640;
@@ -34,6 +35,16 @@ fn words_of_packet(mut input: Input, changes: u8, set: u128) -> (Vec<u64>, Vec<u
         }
     }
     (words, packet)
+}
+
+/// Which items are said to be there: for 0 those of the rows, up to 128 with one bit wrong, else by the number alone.
+pub fn handed(lent: Rows, number: usize) -> u128 {
+    let right = Twin::TRUE.words_of(&lent.rows());
+    match number {
+        0 => right,
+        1..=128 => right ^ 1 << (number - 1),
+        _ => number as u128 | (number as u128) << 64,
+    }
 }
 
 /// A record for every row in the words. What no record can be is the next best: a kind is taken modulo 4, and a part beyond the buffer is

@@ -8,7 +8,7 @@ pub use tables::compare_writers;
 
 use crate::packets::{self, Item};
 use crate::rival::{self, ground};
-use oysterknoll::{Corner, Knowing, Refusal, LONGEST_PACKET, TABLE_WORDS};
+use oysterknoll::{Corner, Knowing, Present, Refusal, LONGEST_PACKET, TABLE_WORDS};
 
 /// Numbers that look random, the same in every run.
 struct Dice(u64);
@@ -35,12 +35,15 @@ const PLENTY: Lent = Lent {
     out_bytes: LONGEST_PACKET,
 };
 
+/// How often each refusal was met, by its number; what was accepted at 0.
+type Met = [usize; 23];
+
 /// Compares on these packets and on so many damaged ones, and answers how often each refusal was met, accepted packets at 0.
 pub fn compare_all<'a>(
     whole: impl Iterator<Item = &'a Vec<u8>>,
     damaged: usize,
-) -> Result<[usize; 22], String> {
-    let mut met = [0; 22];
+) -> Result<Met, String> {
+    let mut met = [0; 23];
     for packet in whole {
         met[compare(packet, &PLENTY)?] += 1;
     }
@@ -59,16 +62,19 @@ fn compare(packet: &[u8], lent: &Lent) -> Result<usize, String> {
     let tables = [(); 2].map(|()| vec![0xA5A5; lent.table_words]);
     let outs = [(); 2].map(|()| vec![0xA5; lent.out_bytes]);
     let ([mut table, mut rival_table], [mut out, mut rival_out]) = (tables, outs);
-    let check = oysterknoll::check(packet, knowing).map_err(in_numbers);
-    let read = oysterknoll::read(packet, knowing, &mut table).map(|rows| rows.len());
+    let check = oysterknoll::check(packet, knowing);
+    let check = check.map(|accepted| in_words(accepted.count, accepted.present));
+    let read = oysterknoll::read(packet, knowing, &mut table);
+    let read = read.map(|rows| in_words(rows.len(), rows.present()));
     let forward = oysterknoll::forward(packet, knowing, &mut out).map_err(in_numbers);
     let same_corner = |k| corner(packet, knowing, k) == rival::corner(packet, low, high, k);
-    let agree = check == rival::check(packet, low, high)
+    let agree = check.map_err(in_numbers) == rival::check(packet, low, high)
         && read.map_err(in_numbers) == rival::read(packet, low, high, &mut rival_table)
         && forward == rival::forward(packet, low, high, &mut rival_out)
         && table == rival_table
         && out == rival_out
-        && (0..6).all(same_corner);
+        && (0..6).all(same_corner)
+        && check.map_or(true, |accepted| same_answers(accepted.present));
     if agree {
         Ok(forward.map_or_else(|refusal| refusal.number as usize, |_| 0))
     } else {
@@ -76,6 +82,19 @@ fn compare(packet: &[u8], lent: &Lent) -> Result<usize, String> {
             "the rival disagrees on {packet:02X?} with {lent:?}"
         ))
     }
+}
+
+/// What the library has of an accepted packet as the rival gives it.
+fn in_words(count: usize, present: Present) -> rival::Accepted {
+    let present = present.words().into();
+    rival::Accepted { count, present }
+}
+
+/// Whether both answer alike which items are there.
+fn same_answers(words: [u64; 2]) -> bool {
+    let present = Present::from_words(words[0], words[1]);
+    let mut tags = (0..300).chain([1 << 32, u64::MAX]);
+    tags.all(|tag| present.has(tag) == rival::has(words, tag))
 }
 
 /// The library's answer on a corner as the rival gives it.

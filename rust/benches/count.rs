@@ -5,7 +5,7 @@
 mod packets;
 mod rival;
 
-use oysterknoll::{Knowing, LONGEST_LISTING, LONGEST_PACKET, TABLE_WORDS};
+use oysterknoll::{Knowing, Present, LONGEST_LISTING, LONGEST_PACKET, TABLE_WORDS};
 use std::hint::black_box;
 use std::process::ExitCode;
 
@@ -62,6 +62,20 @@ fn library(operation: &str, packet: &[u8], times: usize) -> bool {
                 oysterknoll::write(black_box(&table), count, packet(), all, &mut out)
             })
         }
+        "write_with" => {
+            let rows = oysterknoll::read(packet(), all, &mut table);
+            let none = (0, Present::default());
+            let (count, present) = rows.map_or(none, |rows| (rows.len(), rows.present()));
+            repeat(times, || {
+                let present = black_box(present);
+                oysterknoll::write_with(black_box(&table), count, packet(), all, present, &mut out)
+            })
+        }
+        "ask" => {
+            let checked = oysterknoll::check(packet(), all);
+            let present = checked.map_or(Present::default(), |accepted| accepted.present);
+            repeat(times, || black_box(present).has(black_box(23)))
+        }
         "walk" => repeat(times, || {
             oysterknoll::items(packet(), all).map_or(0, Iterator::count)
         }),
@@ -89,10 +103,23 @@ fn rival(operation: &str, packet: &[u8], times: usize) -> bool {
         "read" => repeat(times, || rival::read(packet(), low, high, &mut table)),
         "forward" => repeat(times, || rival::forward(packet(), low, high, &mut out)),
         "write" => {
-            let count = rival::read(packet(), low, high, &mut table).unwrap_or(0);
+            let count = rival::read(packet(), low, high, &mut table).map_or(0, |read| read.count);
             repeat(times, || {
                 rival::write(black_box(&table), count, packet(), low, high, &mut out)
             })
+        }
+        "write_with" => {
+            let read = rival::read(packet(), low, high, &mut table);
+            let (count, present) = read.map_or((0, [0; 2]), |read| (read.count, read.present));
+            repeat(times, || {
+                let (table, present) = (black_box(&table), black_box(present));
+                rival::write_with(table, count, packet(), low, high, present, &mut out)
+            })
+        }
+        "ask" => {
+            let checked = rival::check(packet(), low, high);
+            let present = checked.map_or([0; 2], |accepted| accepted.present);
+            repeat(times, || rival::has(black_box(present), black_box(23)))
         }
         "corner" => repeat(times, || rival::corner(packet(), low, high, black_box(1))),
         "to_house" => repeat(times, || {

@@ -6,9 +6,16 @@ mod writing;
 
 pub use ground::corner;
 pub use scale::{to_code, to_house};
-pub use writing::write;
+pub use writing::{write, write_with};
 
-/// Why a packet is refused, in document 01's numbers.
+/// What an accepted packet has: how many items, and by the bits of two words which known ones.
+#[derive(Clone, Copy, PartialEq, Eq, Debug)]
+pub struct Accepted {
+    pub count: usize,
+    pub present: [u64; 2],
+}
+
+/// Why a packet is refused, by number.
 #[derive(Clone, Copy, PartialEq, Eq, Debug)]
 pub struct Refusal {
     pub number: u64,
@@ -291,7 +298,7 @@ fn walk(
     low: u64,
     high: u64,
     mut keep: impl FnMut(usize, Item),
-) -> Result<usize, Refusal> {
+) -> Result<Accepted, Refusal> {
     let body = body(packet)?;
     let mut known = Known {
         knowing: [low, high, 0, 0],
@@ -313,10 +320,14 @@ fn walk(
         place = item.place + item.length;
     }
     ends(packet, body, last)?;
+    let [low_left, high_left, ..] = known.awaited;
     match known.fault {
         Some(fault) => Err(fault),
-        None if known.awaited[1] & 2 != 0 => Err(refusal(15, 0, 0)),
-        None => Ok(count),
+        None if high_left & 2 != 0 => Err(refusal(15, 0, 0)),
+        None => Ok(Accepted {
+            count,
+            present: [low ^ low_left, high ^ high_left],
+        }),
     }
 }
 
@@ -338,34 +349,40 @@ fn ends(packet: &[u8], body: usize, last: usize) -> Result<(), Refusal> {
     Ok(())
 }
 
-/// The number of items of an accepted packet.
+/// How many items an accepted packet has, and which known ones.
 #[inline(never)]
-pub fn check(packet: &[u8], low: u64, high: u64) -> Result<usize, Refusal> {
+pub fn check(packet: &[u8], low: u64, high: u64) -> Result<Accepted, Refusal> {
     if !good(low, high) {
         return Err(refusal(1, 0, 0));
     }
     walk(packet, low, high, |_, _| {})
 }
 
-/// Fills the first 512 words of the table with the rows of an accepted packet and answers their count.
+/// Whether the words have a bit for the tag.
 #[inline(never)]
-pub fn read(packet: &[u8], low: u64, high: u64, table: &mut [u64]) -> Result<usize, Refusal> {
+pub fn has(present: [u64; 2], tag: u64) -> bool {
+    tag < 128 && present[(tag / 64) as usize] >> (tag % 64) & 1 == 1
+}
+
+/// Fills the first 512 words of the table with the rows of an accepted packet, and answers as check does.
+#[inline(never)]
+pub fn read(packet: &[u8], low: u64, high: u64, table: &mut [u64]) -> Result<Accepted, Refusal> {
     if !good(low, high) {
         return Err(refusal(1, 0, 0));
     }
     let table = table.get_mut(..TABLE_WORDS).ok_or(refusal(2, 0, 0))?;
     let mut items = [(0u32, 0u32); MOST_ITEMS];
-    let count = walk(packet, low, high, |n, item| {
+    let accepted = walk(packet, low, high, |n, item| {
         items[n] = (item.tag as u32, (item.place << 16 | item.length) as u32);
     })?;
     let knowing = [low, high];
-    let (rows, rest) = table.split_at_mut(4 * count);
+    let (rows, rest) = table.split_at_mut(4 * accepted.count);
     for (row, &(tag, span)) in rows.chunks_exact_mut(4).zip(&items) {
         let (kind, code) = content(packet, &knowing, tag, span);
         row.copy_from_slice(&[tag.into(), kind.into(), code, span.into()]);
     }
     rest.fill(0);
-    Ok(count)
+    Ok(accepted)
 }
 
 /// Kind and code of an accepted item.

@@ -1,8 +1,8 @@
 //! MISB ST 0601 packets, the metadata that travels with drone video, read, judged, written and sent on.
 //!
-//! The work is done by a proved library: what each function answers is defined in the project's scope paper ("document 01") and
-//! proved of the library's code. This crate is a thin safe cover over its C functions. It adds no rule of its own, allocates
-//! nothing and needs nothing but `core`.
+//! The work is done by a proved library: what each function answers is defined in the project's scope paper ("document 01") and its
+//! change requests ("document 02"), and proved of the library's code. This crate is a thin safe cover over its C functions. It adds no
+//! rule of its own, allocates nothing and needs nothing but `core`.
 //!
 //! Every input gets an answer: an accepted packet its values, any other bytes a [`Refusal`] by reason, place and tag. No function
 //! has to be told anything true first, none panics, and a refusal leaves all memory lent as it was.
@@ -44,6 +44,7 @@ pub mod catalogue;
 mod ground;
 mod items;
 mod knowing;
+mod present;
 mod raw;
 mod refusal;
 mod rows;
@@ -55,9 +56,10 @@ pub use ground::{
 };
 pub use items::{items, Items};
 pub use knowing::Knowing;
+pub use present::{Present, Tags};
 pub use refusal::{Reason, Refusal};
 pub use rows::{read, take_row, Content, Row, Rows, RowsIter};
-pub use writing::{write, write_rows};
+pub use writing::{write, write_rows, write_with};
 
 /// The examples of the README are run too.
 #[cfg(doctest)]
@@ -67,9 +69,9 @@ struct Readme;
 /// The version of what this crate and an archive say to each other: an archive that goes with the crate answers it to [`version`].
 ///
 /// ```
-/// assert_eq!(oysterknoll::VERSION, 1);
+/// assert_eq!(oysterknoll::VERSION, 2);
 /// ```
-pub const VERSION: u64 = 1;
+pub const VERSION: u64 = 2;
 
 /// The words of a table that [`read`] fills: four for each of at most 128 rows.
 ///
@@ -83,7 +85,7 @@ pub const VERSION: u64 = 1;
 /// ```
 pub const TABLE_WORDS: usize = 512;
 
-/// The bytes of the longest packet; an output of so many is never too short for [`write()`], [`write_rows`] and [`forward`].
+/// The bytes of the longest packet; an output of so many is never too short for [`forward`] and the writers.
 ///
 /// ```
 /// use oysterknoll::{check, Knowing, Reason, LONGEST_PACKET};
@@ -112,7 +114,35 @@ pub fn version() -> u64 {
     raw::version()
 }
 
-/// Judges a packet, and answers how many items it has.
+/// What an accepted packet has, by [`check`].
+///
+/// ```
+/// use oysterknoll::{check, Accepted, Knowing, Present};
+///
+/// let packet = include_bytes!("../../samples/smallest.klv");
+/// let present = Present::from_words(0b110, 0b10); // 1, 2 and 65
+/// assert_eq!(check(packet, Knowing::ALL), Ok(Accepted { count: 3, present }));
+/// ```
+#[derive(Clone, Copy, Debug, PartialEq, Eq, Hash)]
+pub struct Accepted {
+    /// How many items there are, those that the receiver does not know among them.
+    pub count: usize,
+    /// Which of those that the receiver knows are there.
+    pub present: Present,
+}
+
+impl raw::CountAnswer {
+    /// What the packet has where nothing is refused, else the refusal.
+    pub(crate) fn accepted(self) -> Result<Accepted, Refusal> {
+        let raw::Present { low, high } = self.present;
+        self.refusal.or(Accepted {
+            count: self.count,
+            present: Present::from_words(low, high),
+        })
+    }
+}
+
+/// Judges a packet, and answers how many items it has, and which of those that the receiver knows.
 ///
 /// # Errors
 ///
@@ -130,11 +160,13 @@ pub fn version() -> u64 {
 ///     65, 1, 17, // version
 ///     1, 2, 0x62, 0xa6, // checksum
 /// ];
-/// assert_eq!(check(&packet, Knowing::ALL), Ok(3));
+/// let accepted = check(&packet, Knowing::ALL)?;
+/// assert_eq!(accepted.count, 3);
+/// assert!(accepted.present.has(65) && !accepted.present.has(23)); // a version, and no frame centre
+/// # Ok::<(), oysterknoll::Refusal>(())
 /// ```
-pub fn check(packet: &[u8], knowing: Knowing) -> Result<usize, Refusal> {
-    let answer = raw::check(packet, knowing);
-    answer.refusal.or(answer.count)
+pub fn check(packet: &[u8], knowing: Knowing) -> Result<Accepted, Refusal> {
+    raw::check(packet, knowing).accepted()
 }
 
 /// Sends a packet on: reads it, and writes all its rows at the front of `out`. Answers the number of bytes written.

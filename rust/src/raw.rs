@@ -26,9 +26,16 @@ pub struct Row {
 }
 
 #[repr(C)]
+pub struct Present {
+    pub low: u64,
+    pub high: u64,
+}
+
+#[repr(C)]
 pub struct CountAnswer {
     pub refusal: Refusal,
     pub count: usize,
+    pub present: Present,
 }
 
 #[repr(C)]
@@ -131,6 +138,7 @@ extern "C" {
         table: *mut u64,
         table_len: usize,
     ) -> CountAnswer;
+    fn oyk_has(present_low: u64, present_high: u64, tag: u64) -> u64;
     fn oyk_take_row(
         words: *const u64,
         words_len: usize,
@@ -157,6 +165,19 @@ extern "C" {
         buffer_len: usize,
         low: u64,
         high: u64,
+        out: *mut u8,
+        out_len: usize,
+    ) -> SizeAnswer;
+    fn oyk_write_with(
+        words: *const u64,
+        words_len: usize,
+        count: usize,
+        buffer: *const u8,
+        buffer_len: usize,
+        low: u64,
+        high: u64,
+        present_low: u64,
+        present_high: u64,
         out: *mut u8,
         out_len: usize,
     ) -> SizeAnswer;
@@ -215,6 +236,12 @@ pub fn read(packet: &[u8], knowing: Knowing, table: &mut [u64]) -> CountAnswer {
     }
 }
 
+pub fn has(present: crate::Present, tag: u64) -> u64 {
+    let (low, high) = present.words();
+    // SAFETY: no memory is lent.
+    unsafe { oyk_has(low, high, tag) }
+}
+
 pub fn take_row(
     words: &[u64],
     count: usize,
@@ -268,6 +295,34 @@ pub fn write(
             buffer.len(),
             low,
             high,
+            out.as_mut_ptr(),
+            out.len(),
+        )
+    }
+}
+
+pub fn write_with(
+    words: &[u64],
+    count: usize,
+    buffer: &[u8],
+    knowing: Knowing,
+    present: crate::Present,
+    out: &mut [u8],
+) -> SizeAnswer {
+    let (low, high) = knowing.words();
+    let (present_low, present_high) = present.words();
+    // SAFETY: as above.
+    unsafe {
+        oyk_write_with(
+            words.as_ptr(),
+            words.len(),
+            count,
+            buffer.as_ptr(),
+            buffer.len(),
+            low,
+            high,
+            present_low,
+            present_high,
             out.as_mut_ptr(),
             out.len(),
         )

@@ -4,7 +4,7 @@ use core::fmt;
 /// Makes [`Reason`] out of one list of names, numbers and words.
 macro_rules! reasons {
     ($($name:ident = $number:literal, $words:literal;)*) => {
-        /// Why an answer is a refusal: document 01's twenty-one reasons with its numbers.
+        /// Why an answer is a refusal: the reasons of document 01, and from 22 on those of its change requests, with their numbers.
         ///
         /// ```
         /// use oysterknoll::Reason;
@@ -31,11 +31,11 @@ macro_rules! reasons {
             /// ```
             /// use oysterknoll::Reason;
             ///
-            /// assert!(Reason::ALL.iter().map(|reason| reason.number()).eq(1..=21));
+            /// assert!(Reason::ALL.iter().map(|reason| reason.number()).eq(1..=22));
             /// ```
             pub const ALL: &'static [Reason] = &[$(Reason::$name),*];
 
-            /// Document 01's number.
+            /// The reason's number.
             ///
             /// ```
             /// assert_eq!(oysterknoll::Reason::KnownTagTwice.number(), 13);
@@ -63,7 +63,7 @@ macro_rules! reasons {
             }
         }
 
-        /// Document 01's words.
+        /// The words that the documents have for it.
         impl fmt::Display for Reason {
             fn fmt(&self, f: &mut fmt::Formatter<'_>) -> fmt::Result {
                 f.write_str(match self {
@@ -97,6 +97,7 @@ reasons! {
     NoScale = 19, "tag has no scale";
     NotANumber = 20, "code is a mark or too wide";
     ValueOutOfRange = 21, "value outside the range";
+    WordsDisagree = 22, "words disagree";
 }
 
 /// A refusal: why, where, and of which tag. Nothing that was lent is changed by one.
@@ -120,7 +121,7 @@ pub struct Refusal {
 }
 
 impl Refusal {
-    /// Document 01's number of the reason.
+    /// The number of the reason.
     ///
     /// ```
     /// let refusal = oysterknoll::to_house(2, 0).unwrap_err();

@@ -1,5 +1,5 @@
 use crate::raw;
-use crate::{Knowing, Reason, Refusal};
+use crate::{Knowing, Present, Reason, Refusal};
 use core::fmt;
 use core::iter::FusedIterator;
 use core::ops::Range;
@@ -107,6 +107,7 @@ pub struct Rows<'p, 't> {
     packet: &'p [u8],
     knowing: Knowing,
     words: &'t [u64],
+    present: Present,
 }
 
 /// Reads a packet into the lent table, which has at least [`TABLE_WORDS`](crate::TABLE_WORDS) words.
@@ -135,10 +136,10 @@ pub fn read<'p, 't>(
     knowing: Knowing,
     table: &'t mut [u64],
 ) -> Result<Rows<'p, 't>, Refusal> {
-    let answer = raw::read(packet, knowing, table);
-    let count = answer.refusal.or(answer.count)?;
+    let accepted = raw::read(packet, knowing, table).accepted()?;
     // The library's rows always fit the table; if they did not, none would be handed out.
-    let words = count
+    let words = accepted
+        .count
         .checked_mul(WORDS_A_ROW)
         .and_then(|end| table.get(..end))
         .unwrap_or_default();
@@ -146,6 +147,7 @@ pub fn read<'p, 't>(
         packet,
         knowing,
         words,
+        present: accepted.present,
     })
 }
 
@@ -178,6 +180,21 @@ impl<'p, 't> Rows<'p, 't> {
     /// ```
     pub const fn is_empty(&self) -> bool {
         self.words.is_empty()
+    }
+
+    /// Which items are there, without a scan of the rows.
+    ///
+    /// ```
+    /// use oysterknoll::{read, Knowing, TABLE_WORDS};
+    ///
+    /// let packet = include_bytes!("../../samples/offsets.klv");
+    /// let mut table = [0; TABLE_WORDS];
+    /// let rows = read(packet, Knowing::ALL, &mut table)?;
+    /// assert!(rows.present().has(23) && !rows.present().has(82));
+    /// # Ok::<(), oysterknoll::Refusal>(())
+    /// ```
+    pub const fn present(&self) -> Present {
+        self.present
     }
 
     /// Row n, counted from 0.

@@ -1,6 +1,6 @@
 use crate::raw;
 use crate::rows::WORDS_A_ROW;
-use crate::{Content, Knowing, Refusal, Row, LONGEST_PACKET, TABLE_WORDS};
+use crate::{Content, Knowing, Present, Refusal, Row, LONGEST_PACKET, TABLE_WORDS};
 
 /// Writes the `count` rows in `words` as a packet at the front of `out`, and answers its number of bytes.
 ///
@@ -35,6 +35,44 @@ pub fn write(
     answer.refusal.or(answer.size)
 }
 
+/// Writes as [`write()`] does, handed beside the rows which items are there, and refuses what a scan of the rows would not give.
+///
+/// What [`Rows::present`](crate::Rows::present) gives is right for its rows as they were read. A bit too many is as wrong as one too few; of
+/// a known tag that stands twice the scan sets the bit once.
+///
+/// # Errors
+///
+/// The writer's refusals with 22 after 17: 1, 16, 17, 22, 3, 9, 10, 12 to 15 and 18, in this order; the place is a row number, and 0 for 22.
+///
+/// # Example
+///
+/// ```
+/// use oysterknoll::{read, write_with, Knowing, Present, Reason, LONGEST_PACKET, TABLE_WORDS};
+///
+/// let packet = include_bytes!("../../samples/relayed.klv");
+/// let mut table = [0; TABLE_WORDS];
+/// let rows = read(packet, Knowing::ALL, &mut table)?;
+/// let mut out = [0; LONGEST_PACKET];
+/// let size = write_with(rows.words(), rows.len(), packet, Knowing::ALL, rows.present(), &mut out)?;
+/// assert_eq!(&out[..size], include_bytes!("../../samples/tower.klv"));
+///
+/// let none = Present::default();
+/// let refusal = write_with(rows.words(), rows.len(), packet, Knowing::ALL, none, &mut out).unwrap_err();
+/// assert_eq!(refusal.reason, Reason::WordsDisagree);
+/// # Ok::<(), oysterknoll::Refusal>(())
+/// ```
+pub fn write_with(
+    words: &[u64],
+    count: usize,
+    buffer: &[u8],
+    knowing: Knowing,
+    present: Present,
+    out: &mut [u8],
+) -> Result<usize, Refusal> {
+    let answer = raw::write_with(words, count, buffer, knowing, present, out);
+    answer.refusal.or(answer.size)
+}
+
 /// Writes these rows as a packet at the front of `out`, and answers its number of bytes: [`write()`] without words and places.
 ///
 /// The first row is the time stamp and the last the checksum, whose code is worked out whatever the row says; the version is among
@@ -59,7 +97,7 @@ pub fn write(
 /// ];
 /// let mut out = [0; LONGEST_PACKET];
 /// let size = write_rows(&rows, Knowing::ALL, &mut out)?;
-/// assert_eq!(check(&out[..size], Knowing::ALL), Ok(5));
+/// assert_eq!(check(&out[..size], Knowing::ALL)?.count, 5);
 /// # Ok::<(), oysterknoll::Refusal>(())
 /// ```
 pub fn write_rows(rows: &[Row<'_>], knowing: Knowing, out: &mut [u8]) -> Result<usize, Refusal> {

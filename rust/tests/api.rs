@@ -1,5 +1,7 @@
 //! What the crate answers for the stored packets, at the ends of what can be lent to it, and on refusals.
 
+#[path = "api/present.rs"]
+mod present;
 #[path = "api/values.rs"]
 mod values;
 #[path = "api/walk.rs"]
@@ -55,6 +57,11 @@ fn listing(packet: &[u8]) -> String {
     }
 }
 
+/// How many items a packet has.
+fn count(packet: &[u8]) -> Result<usize, Refusal> {
+    check(packet, Knowing::ALL).map(|accepted| accepted.count)
+}
+
 /// The accepted samples.
 fn accepted() -> Vec<Vec<u8>> {
     ["smallest", "tower", "relayed", "offsets"]
@@ -76,14 +83,17 @@ fn stored_packets_are_listed() {
 #[test]
 fn a_packet_gets_one_answer_from_every_reader() {
     for (packet, _) in listed("samples") {
-        let counted = check(&packet, Knowing::ALL);
-        let refusal = counted.err();
+        let accepted = check(&packet, Knowing::ALL);
+        let refusal = accepted.err();
         let mut table = [0; TABLE_WORDS];
         let mut out = [0; LONGEST_PACKET];
-        let rows = read(&packet, Knowing::ALL, &mut table).map(|rows| rows.len());
-        assert_eq!(rows, counted);
+        let rows = read(&packet, Knowing::ALL, &mut table).map(|rows| Accepted {
+            count: rows.len(),
+            present: rows.present(),
+        });
+        assert_eq!(rows, accepted);
         let walked = items(&packet, Knowing::ALL).map(Iterator::count);
-        assert_eq!(walked, counted);
+        assert_eq!(walked, accepted.map(|accepted| accepted.count));
         assert_eq!(forward(&packet, Knowing::ALL, &mut out).err(), refusal);
         assert_eq!(sensor_height(&packet, Knowing::ALL).err(), refusal);
         assert_eq!(frame_centre_height(&packet, Knowing::ALL).err(), refusal);
@@ -110,6 +120,11 @@ fn empty_slices_have_answers() {
         refused(write(&[], 0, &[], Knowing::ALL, &mut [])),
         (9, 0, 0)
     );
+    let none = Present::default();
+    assert_eq!(
+        refused(write_with(&[], 0, &[], Knowing::ALL, none, &mut [])),
+        (9, 0, 0)
+    );
     assert_eq!(refused(write_rows(&[], Knowing::ALL, &mut [])), (9, 0, 0));
     assert_eq!(refused(take_row(&[], 0, 0, &[], Knowing::ALL)), (17, 0, 0));
 }
@@ -128,6 +143,9 @@ fn a_set_that_is_not_good_is_refused_first() {
         assert_eq!(refused(read(&[], bad, &mut [])), first);
         assert_eq!(refused(take_row(&[], 1, 0, &[], bad)), first);
         assert_eq!(refused(write(&[], 1, &[], bad, &mut [])), first);
+        let (low, high) = bad.words();
+        let words = Present::from_words(low, high);
+        assert_eq!(refused(write_with(&[], 1, &[], bad, words, &mut [])), first);
         assert_eq!(refused(write_rows(&[], bad, &mut [])), first);
         assert_eq!(refused(forward(&[], bad, &mut [])), first);
         assert_eq!(refused(sensor_height(&[], bad)), first);

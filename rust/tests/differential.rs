@@ -1,4 +1,4 @@
-//! The product against a twin written from document 01 alone, over seeded cases.
+//! The product against a twin written from documents 01 and 02 alone, over seeded cases.
 //!
 //! `OYSTERKNOLL_SEED` sets the seed, `OYSTERKNOLL_CASES` the number of comparisons in all.
 
@@ -22,6 +22,8 @@ mod lent;
 mod lists;
 #[path = "differential/make.rs"]
 mod make;
+#[path = "differential/present.rs"]
+mod present;
 #[path = "differential/random.rs"]
 mod random;
 #[path = "differential/same.rs"]
@@ -32,6 +34,8 @@ mod tables;
 mod twin;
 #[path = "differential/twin_answers.rs"]
 mod twin_answers;
+#[path = "differential/twin_present.rs"]
+mod twin_present;
 #[path = "differential/twin_records.rs"]
 mod twin_records;
 #[path = "differential/twin_write.rs"]
@@ -43,13 +47,13 @@ mod worked;
 
 use bench::{must_hold, report, run, Bench, Law};
 use catalogue::{tags_of, ALL};
-use compare::Comparer;
+use compare::{Comparer, LAST_REFUSAL};
 use conversions::{code_agrees, edge_codes, edge_values, scaled, ties, value_agrees};
 use twin::{Twin, ALTERATIONS};
 use twin_answers::Scale;
 
 /// The laws on packets, tables, listings and records, then the one on conversions.
-const LAWS: [Law; 9] = [
+const LAWS: [Law; 11] = [
     Law {
         number: 1,
         name: "reader",
@@ -107,6 +111,20 @@ const LAWS: [Law; 9] = [
         case: laws::writer_of_records,
     },
     Law {
+        number: 13,
+        name: "asked of the words",
+        share: 100_000,
+        refusals: &[1, 3, 4, 5, 6, 7, 8, 9, 10, 11, 12, 13, 14, 15],
+        case: laws::asked,
+    },
+    Law {
+        number: 14,
+        name: "writer handed words",
+        share: 200_000,
+        refusals: &[1, 3, 9, 10, 12, 13, 14, 15, 16, 17, 18, 22],
+        case: laws::writer_with_words,
+    },
+    Law {
         number: 7,
         name: "conversions",
         share: 280_000,
@@ -139,6 +157,28 @@ const WALKED_AND_WRITTEN: Law = Law {
     case: demands::walked_and_written,
 };
 
+const WORDS_OF_TWO_RECEIVERS: Law = Law {
+    number: 15,
+    name: "words of two receivers",
+    share: 20_000,
+    refusals: &[3, 4, 5, 6, 7, 8, 9, 10, 11, 12, 13, 14, 15],
+    case: present::words_of_two_receivers,
+};
+const WORDS_OF_WHAT_IS_SENT_ON: Law = Law {
+    number: 16,
+    name: "words of what is sent on",
+    share: 20_000,
+    refusals: &[3, 4, 5, 6, 7, 8, 9, 10, 11, 12, 13, 14, 15],
+    case: present::words_of_what_is_sent_on,
+};
+const WORDS_OF_WHAT_IS_WRITTEN: Law = Law {
+    number: 17,
+    name: "words of what is written",
+    share: 20_000,
+    refusals: &[1, 3, 9, 10, 12, 13, 14, 15, 16, 17],
+    case: present::words_of_what_is_written,
+};
+
 /// The comparisons of product and twin in the gate.
 pub const TOTAL: u64 = total();
 
@@ -155,14 +195,14 @@ const fn total() -> u64 {
         }
         n += 1;
     }
-    // Refusals 1 to 21, each named by a law that fails if it never comes.
-    assert!(refusals == (1 << 22) - 2);
+    // Every refusal from 1 on, each named by a law that fails if it never comes.
+    assert!(refusals == (2 << LAST_REFUSAL) - 2);
     sum
 }
 
 const _: () = assert!(TOTAL >= 1_000_000);
 // Packets, tables, listings and records: all but the conversions.
-const _: () = assert!(TOTAL - LAWS[8].share >= 1_000_000);
+const _: () = assert!(TOTAL - LAWS[10].share >= 1_000_000);
 
 #[test]
 fn reader() {
@@ -205,8 +245,18 @@ fn writer_of_records() {
 }
 
 #[test]
-fn conversions_of_edges_and_samples() {
+fn asked_of_the_words() {
     run(&LAWS[8]);
+}
+
+#[test]
+fn writer_handed_words() {
+    run(&LAWS[9]);
+}
+
+#[test]
+fn conversions_of_edges_and_samples() {
+    run(&LAWS[10]);
 }
 
 #[test]
@@ -224,13 +274,45 @@ fn what_is_walked_is_read_and_its_records_are_sent_on() {
     run(&WALKED_AND_WRITTEN);
 }
 
+#[test]
+fn a_poorer_receivers_words_are_the_fullers_within_its_set() {
+    run(&WORDS_OF_TWO_RECEIVERS);
+}
+
+#[test]
+fn what_is_sent_on_has_the_original_words() {
+    run(&WORDS_OF_WHAT_IS_SENT_ON);
+}
+
+#[test]
+fn what_is_written_with_its_words_reads_back_with_them() {
+    run(&WORDS_OF_WHAT_IS_WRITTEN);
+}
+
 /// Every tag up to 300, then those that a shift or a cut takes for one of the catalogue's.
+fn many_tags() -> impl Iterator<Item = u64> {
+    let far = (8..64).flat_map(|bit| (0..128).map(move |tag| 1 << bit | tag));
+    let last = u64::MAX - 300..=u64::MAX;
+    (0..=300).chain(far).chain(last)
+}
+
+/// Words with one bit, and words with all but one.
+#[test]
+fn every_bit_asked_for_many_tags() {
+    let mut comparer = Comparer::new(Twin::TRUE);
+    for bit in 0..128 {
+        for tag in many_tags() {
+            must_hold(comparer.has(1 << bit, tag));
+            must_hold(comparer.has(!(1 << bit), tag));
+        }
+    }
+    report("every bit asked for many tags", &comparer.tally);
+}
+
 #[test]
 fn every_tag_of_the_catalogue() {
     let mut comparer = Comparer::new(Twin::TRUE);
-    let far = (8..64).flat_map(|bit| (0..128).map(move |tag| 1 << bit | tag));
-    let last = u64::MAX - 300..=u64::MAX;
-    for tag in (0..=300).chain(far).chain(last) {
+    for tag in many_tags() {
         must_hold(comparer.item(tag));
     }
     report("every tag of the catalogue", &comparer.tally);

@@ -1,18 +1,18 @@
 //! Holds the C header, the crate and the proved code to each other: constants by name and number, structs with their fields in order,
 //! functions with their parameters and answers; and the items of header, crate and archive to those of ST 0601.
 
-use oysterknoll::catalogue::{self, Range, Stored, Unit};
+#[path = "header/items.rs"]
+mod items;
+
 use oysterknoll::{
     version, Knowing, Reason, LONGEST_LISTING, LONGEST_PACKET, TABLE_WORDS, VERSION,
 };
-use std::array::from_fn;
 use std::collections::BTreeMap;
 
 const HEADER: &str = include_str!("../../include/oysterknoll.h");
 const CRATE: &str = include_str!("../src/lib.rs");
 const RAW: &str = include_str!("../src/raw.rs");
 const PROVED: &str = include_str!("../../crates/oysterknoll/src/lib.rt");
-const NAMES: &str = include_str!("../../tests/names/st0601.tsv");
 const LISTING: &str = include_str!("../../crates/listing/src/lib.rt");
 const LISTING_DEFINED: &str = include_str!("../../crates/listing/specs/Listing.antt");
 
@@ -263,103 +263,6 @@ fn lent(parameter: &str) -> Vec<String> {
     vec![pointer, format!("{name}_len: usize")]
 }
 
-/// Tag, name and unit of an item, the unit as the header has it.
-type Item = (u64, String, String);
-
-fn item([tag, name, unit]: [&str; 3]) -> Item {
-    (number(tag), name.to_string(), unit.to_string())
-}
-
-/// The first three parts of a line.
-fn three<'a>(mut parts: impl Iterator<Item = &'a str>) -> [&'a str; 3] {
-    from_fn(|_| parts.next().expect("tag, name and unit"))
-}
-
-/// The items of the header's list.
-fn header_items() -> Vec<Item> {
-    let listed = HEADER
-        .lines()
-        .filter_map(|line| line.trim_start().strip_prefix("ITEM("));
-    let items = listed.map(|line| {
-        let [tag, name, unit] = three(line.split('"'));
-        item([tag.trim_end_matches(", "), name, between(unit, ", ", ")")])
-    });
-    items.collect()
-}
-
-/// The items as crate and archive have them.
-fn crate_items() -> Vec<Item> {
-    let items = catalogue::all();
-    items
-        .map(|item| (item.tag, item.name.to_string(), unit_name(item.unit)))
-        .collect()
-}
-
-/// The items as ST 0601 has them.
-fn named_items() -> Vec<Item> {
-    let items = NAMES.lines().skip(1).map(|line| {
-        let [tag, name, unit] = three(line.split('\t'));
-        item([tag, name, &unit_name(unit_of(unit))])
-    });
-    items.collect()
-}
-
-/// The unit by its name in the header.
-fn unit_name(unit: Option<Unit>) -> String {
-    unit.map_or("NONE".to_string(), |unit| upper_snake(&format!("{unit:?}")))
-}
-
-/// The unit by the sign that the table of names has for it; what is only a code has none.
-fn unit_of(sign: &str) -> Option<Unit> {
-    match sign {
-        "deg" => Some(Unit::Degree),
-        "m" => Some(Unit::Metre),
-        "m/s" => Some(Unit::MetrePerSecond),
-        "mbar" => Some(Unit::Millibar),
-        "%" => Some(Unit::Percent),
-        "degC" => Some(Unit::Celsius),
-        "us" => Some(Unit::Microsecond),
-        "none" | "code" => None,
-        other => panic!("{other} is no unit of the catalogue"),
-    }
-}
-
-/// Each scaled item by its tag, in the words that the header's table has for it.
-type Scales = BTreeMap<u64, String>;
-
-fn header_scales() -> Scales {
-    let lines = HEADER
-        .lines()
-        .filter_map(|line| line.strip_prefix(" *     ")?.split_once("  "));
-    let scales = lines.filter(|(_, scale)| scale.contains("signed "));
-    let items = scales.flat_map(|(tags, scale)| {
-        let words = scale.split_whitespace().collect::<Vec<_>>().join(" ");
-        parts(tags, ',').map(move |tag| (number(&tag), words.clone()))
-    });
-    items.collect()
-}
-
-/// The words for an item of the catalogue, if it has a scale.
-fn scale(item: catalogue::Item) -> Option<String> {
-    let Range { low, high } = item.range?;
-    let stored = match item.stored {
-        Stored::Unsigned { width } => format!("unsigned {width}"),
-        Stored::Signed { width } => format!("signed {width}"),
-        Stored::Text => return None,
-    };
-    let (whole, unit) = match item.unit? {
-        Unit::Degree => (1e7, "degrees"),
-        Unit::Metre => (1e3, "m"),
-        Unit::MetrePerSecond => (1e3, "m/s"),
-        Unit::Millibar => (1e3, "mbar"),
-        Unit::Percent => (1e3, "percent"),
-        Unit::Celsius => (1e3, "degrees C"),
-        Unit::Microsecond => return None,
-    };
-    let (low, high) = (low as f64 / whole, high as f64 / whole);
-    Some(format!("{stored} {low} to {high} {unit}"))
-}
-
 /// The number that ends a line of the code, after `start`.
 fn number_after(start: &str, code: &str) -> u64 {
     number(between(code, start, "\n").trim_end_matches(';'))
@@ -368,7 +271,7 @@ fn number_after(start: &str, code: &str) -> u64 {
 #[test]
 fn constants_agree() {
     assert_eq!(header_constants(), crate_constants());
-    assert_eq!(Reason::ALL.len(), 21);
+    assert_eq!(Reason::ALL.len(), 22);
 }
 
 #[test]
@@ -378,7 +281,7 @@ fn reasons_go_by_their_numbers() {
         assert_eq!(Reason::from_number(number), Some(*reason));
     }
     assert_eq!(Reason::from_number(0), None);
-    assert_eq!(Reason::from_number(22), None);
+    assert_eq!(Reason::from_number(23), None);
     assert_eq!(Reason::from_number(u64::MAX), None);
 }
 
@@ -386,34 +289,20 @@ fn reasons_go_by_their_numbers() {
 fn structs_agree() {
     assert_eq!(header_structs(), structs(RAW));
     assert_eq!(header_structs(), structs(PROVED));
-    assert_eq!(header_structs().len(), 12);
+    assert_eq!(header_structs().len(), 13);
 }
 
 #[test]
 fn functions_agree() {
     assert_eq!(header_functions(), raw_functions());
     assert_eq!(header_functions(), proved_functions());
-    assert_eq!(header_functions().len(), 15);
+    assert_eq!(header_functions().len(), 17);
 }
 
 #[test]
 fn versions_agree() {
     assert_eq!(number_after("#define OYK_VERSION ", HEADER), VERSION);
     assert_eq!(version(), VERSION);
-}
-
-#[test]
-fn items_agree() {
-    assert_eq!(header_items(), crate_items());
-    assert_eq!(header_items(), named_items());
-    assert_eq!(header_items().len(), 64);
-}
-
-#[test]
-fn scales_agree() {
-    let scaled = catalogue::all().filter_map(|item| Some((item.tag, scale(item)?)));
-    assert_eq!(header_scales(), scaled.collect());
-    assert_eq!(header_scales().len(), 52);
 }
 
 #[test]

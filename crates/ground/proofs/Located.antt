@@ -211,12 +211,12 @@ module _ (K : TagSet) (p : List ℕ) (r : Located) (d : Locates K p r) where
   pub placed-so : (x : Accepted) → r .answer ≡ checked.Accepted x → Placed K p (r .past)
   unfolding checks
   placed-so x e =
-      let q = map-given bodyOf (received K p) (sym (d .says) ∙ ap checkSaid e) in
+      let q = map-given (bodyOf (holds K)) (received K p) (sym (d .says) ∙ ap checkSaid e) in
       record { items = q .0; accepted = q .1; places = d .places ∙ ap (orElse noPast (pastFrom noPast)) (q .1) }
 
   pub refused-so : {A : Type 0} (f : List RowWords → A) (x : Refusal) → r .answer ≡ checked.Refused x → refusal x ≡ fromRows f K p
   unfolding fromRows checks
-  refused-so f x e = rw (map-refused bodyOf (received K p) _ _ _ (sym (d .says) ∙ ap checkSaid e))
+  refused-so f x e = rw (map-refused (bodyOf (holds K)) (received K p) _ _ _ (sym (d .says) ∙ ap checkSaid e))
 
 pub held-so : {A : Type 0} (f : List RowWords → A) (K : TagSet) (p past : List ℕ) → Placed K p past → given (f (rowsHeld K p)) ≡ fromRows f K p
 unfolding fromRows

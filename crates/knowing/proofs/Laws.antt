@@ -1,12 +1,12 @@
 -- What a good set is, tag by tag, and by inclusion.
 -- Assumes nothing.
-use Prim.Native.Nat.{ℕ}
+use Prim.Native.Nat.{ℕ, zero, suc, _<_}
 use mathlib.Core.Path.{_≡_, refl, ap, sym, _∙_}
 use native.Mathlib.Omega.{arith}
 use lib.Dec.{eqb}
 use borrow.Author.Tests.{ne-eqb}
 use mathlib.Core.Bool.{Bool, true, not, _||_}
-use Rattle.base.proofs.Cases.{byBool, byLt, byEq, clash, unless, unless-true}
+use Rattle.base.proofs.Cases.{byBool, byLt, byEq, clash, never, unless, unless-true}
 use Rattle.base.specs.Every.{allBelow}
 use Rattle.base.proofs.Every.{all-below, below-all, both-left, both-right, both-true}
 use Rattle.tagset.specs.Sets.{holds, within}
@@ -14,6 +14,11 @@ use Rattle.tagset.specs.declared.TagSet.{TagSet}
 use Rattle.tagset.proofs.Laws.{Words, Included, holds-none, within-included, included-within}
 use Rattle.catalogue.specs.Items.{groups, member, itemIn, itemOf}
 use Rattle.catalogue.specs.Rows.{allTags}
+use Rattle.catalogue.specs.Shapes.{isMarked, shapeBy, shapeOf}
+use Rattle.catalogue.specs.declared.Found.{Found}
+use Rattle.catalogue.specs.declared.Found.the-variants.{Known}
+use Rattle.catalogue.specs.declared.Shape.{Shape}
+use Rattle.catalogue.specs.declared.Shape.the-variants.{Text, Number}
 use Rattle.catalogue.proofs.Laws.{item-held, item-none}
 use Rattle.knowing.specs.Good.{isKnown, inCatalogue, good}
 
@@ -57,6 +62,27 @@ module _ (s : TagSet) where
       (both-true _ _ (g .time)
       (both-true _ _ (g .version)
       (below-all only-test 128 (λ t k. unless-true (holds s t) (inCatalogue t) (g .only t)))))
+
+-- a known tag is one of the table, so it is below 128, and not 0
+pub known-below : (K : TagSet) → Words K → (t : ℕ) → holds K t ≡ true → t < 128
+known-below K w t e = byLt t 128 (λ h. h) (λ h. clash (sym e ∙ holds-none K w t h))
+
+module _ (K : TagSet) (g : Good K) where
+  pub known-some : (t : ℕ) → holds K t ≡ true → 0 < t
+  unfolding inCatalogue itemOf itemIn member groups
+  known-some zero e = clash (sym (g .only 0 e))
+  known-some (suc t) e = omega arith
+
+  pub known-there : (t : ℕ) → holds K t ≡ true → shapeOf t ≡ Shape.Absent → ⊥
+  unfolding inCatalogue shapeOf
+  known-there t e = listed (itemOf t) (g .only t e)
+    where
+      listed : (f : Found) → isKnown f ≡ true → shapeBy f ≡ Shape.Absent → ⊥
+      listed (Known i) k a =
+          byBool (eqb (i .width) 0)
+          (λ b. let z : Text ≡ Shape.Absent = rw b at a in never (cc))
+          (λ b. let z : Number (i .width) (isMarked (i .sign)) ≡ Shape.Absent = rw b at a in never (cc))
+      listed Found.Absent k a = clash (sym k)
 
 -- 1, 2 and 65, as two words
 abbrev pub least : TagSet

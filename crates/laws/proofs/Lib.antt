@@ -3,10 +3,12 @@ pub mod Structure
 pub mod Clean
 pub mod Accepted
 pub mod Receivers
+pub mod Present
 pub mod Tables
 pub mod Written
 pub mod Forward
 pub mod Sent
 pub mod Rows
+pub mod Counted
 pub mod Readings
 pub mod Shortest

@@ -33,6 +33,7 @@ use Rattle.rows.proofs.Laws.{kind-seen}
 use Rattle.packet.specs.Rows.{rowOf, rowsOf, bytesAt, pieceOf, piecesOf, tableOf, lentVerdict, Filled, filledBy, readAnswer, tableBy, readTable, rowsIn}
 use Rattle.packet.specs.Rows.{SameRow, SameTable, noRows, oneMore}
 use Rattle.laws.specs.Receivers.{SameReading, bothRefuse, bothRead}
+use Rattle.laws.proofs.Present.{same-present}
 use Rattle.laws.proofs.Accepted.{accepts, accepting}
 use Rattle.laws.proofs.Written.{sumPiece, SameBut, atLast, further, but-length, judged-alike, length-pieces}
 use Rattle.laws.proofs.Written.{Sendable, ReadBack, read-back, written-accepted}
@@ -158,15 +159,15 @@ module _ (K : TagSet) (p t t′ : List ℕ) (is : List Item) (by : Bytes p) (fou
       (λ g. rw g bothRefuse)
     where
       go : good K ≡ true → (j : Judged) → judge (holds K) (pieces is) ≡ j
-          → SameReading p (encode (pieces is)) (map filledBy (placed is j)) (tableBy (holds K) t (placed is j))
-          (map filledBy (placed (sent .items) j)) (tableBy (holds K) t′ (placed (sent .items) j))
+          → SameReading p (encode (pieces is)) (map (filledBy (holds K)) (placed is j)) (tableBy (holds K) t (placed is j))
+          (map (filledBy (holds K)) (placed (sent .items) j)) (tableBy (holds K) t′ (placed (sent .items) j))
       go g fine f =
           let count : length (sent .items) ≡ length is = sym (length-pieces (sent .items)) ∙ (sym (but-length (sent .same)) ∙ length-pieces is) in
           let n : ℕ = length is in
+          let same = sent-table (holds K) p is by (knows-sum K g) found f in
           let rows : SameTable p (encode (pieces is)) (rowsIn 0 n (tableOf (holds K) is t)) (rowsIn 0 n (tableOf (holds K) (sent .items) t′)) =
-          rw (rows-in-table (holds K) is t n refl, rows-in-table (holds K) (sent .items) t′ n count)
-          (sent-table (holds K) p is by (knows-sum K g) found f) in
-          rw count (bothRead rows)
+          rw (rows-in-table (holds K) is t n refl, rows-in-table (holds K) (sent .items) t′ n count) same in
+          rw (count, ← (same-present p (encode (pieces is)) same)) (bothRead rows)
       go g (faulty k n u) f = bothRefuse
       go g noVersion f = bothRefuse
 

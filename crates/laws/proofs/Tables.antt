@@ -13,9 +13,10 @@ use borrow.Author.Tests.{ltb-false, le-ltb}
 use Rattle.refusal.specs.Answer.{given, refused}
 use Rattle.refusal.proofs.Answers.{passed, missed, map-given, map-refused}
 use Rattle.number.specs.Stored.{Bytes}
-use Rattle.tagset.specs.Sets.{holds}
+use Rattle.tagset.specs.Sets.{holds, meet}
 use Rattle.tagset.specs.declared.TagSet.{TagSet}
-use Rattle.tagset.proofs.Laws.{Included}
+use Rattle.tagset.proofs.Laws.{Words, Included}
+use Rattle.knowing.proofs.Laws.{good-means}
 use Rattle.knowing.specs.Good.{good}
 use Rattle.packet.specs.Pieces.{Item}
 use Rattle.packet.specs.Judge.{Knowing}
@@ -27,6 +28,7 @@ use Rattle.packet.specs.Rows.{rowOf, rowsOf, words, tableOf, lentVerdict, Fille
 use Rattle.laws.specs.Receivers.{Below, Only, carried, SmallerRow}
 use Rattle.laws.proofs.Accepted.{accepted-allowed, allowed-accepted}
 use Rattle.laws.proofs.Receivers.{larger-accepts, larger-refuses}
+use Rattle.laws.proofs.Present.{smaller-present}
 
 abbrev itemIn : List Item → ℕ → Item
 itemIn is k = getD is k (record { start = 0; place = 0; piece = record { tag = 0; value = [] } })
@@ -95,7 +97,7 @@ module _ (words : List ℕ) (n count : ℕ) where
 -- what a receiver that has read a packet has: its set is good, its table long enough, and the table's rows are the items' own
 pub record HasRead (K : TagSet) (p t : List ℕ) (done : Filled) : Type 0 where
   pub items : List Item
-  pub filled : filledBy items ≡ done
+  pub filled : filledBy (holds K) items ≡ done
   pub right : good K ≡ true
   pub long : 512 ≤ length t
   pub accepted : verdict (holds K) p ≡ given items
@@ -104,7 +106,7 @@ pub record HasRead (K : TagSet) (p t : List ℕ) (done : Filled) : Type 0 where
 pub has-read : (K : TagSet) (p t : List ℕ) (done : Filled) → readAnswer K p t ≡ given done → HasRead K p t done
 unfolding readAnswer readTable lentVerdict
 has-read K p t done e =
-    let f = map-given filledBy (lentVerdict K p t) e in
+    let f = map-given (filledBy (holds K)) (lentVerdict K p t) e in
     let g = passed (good K) _ 1 0 0 (f .1) in
     let h = missed (ltb (length t) 512) _ 2 0 0 (g .1) in
     record { items = f .0; filled = f .2; right = g .0; long = ltb-false _ _ (h .0); accepted = h .1; table = ap (tableBy (holds K) t) (f .1) }
@@ -132,7 +134,7 @@ has-received K p t done e =
 -- with a table that is long enough its refusal is the one of a receiver that is lent none
 pub received-refused : (K : TagSet) (p t : List ℕ) → 512 ≤ length t → (n a u : ℕ) → readAnswer K p t ≡ refused n a u → received K p ≡ refused n a u
 unfolding readAnswer lentVerdict received
-received-refused K p t long n a u e = map-refused filledBy (received K p) n a u (rw (le-ltb (length t) 512 long) at e)
+received-refused K p t long n a u e = map-refused (filledBy (holds K)) (received K p) n a u (rw (le-ltb (length t) 512 long) at e)
 
 -- a good set and a table of at least 512 words
 module _ (K : TagSet) (p t : List ℕ) (g : good K ≡ true) (long : 512 ≤ length t) where
@@ -140,7 +142,7 @@ module _ (K : TagSet) (p t : List ℕ) (g : good K ≡ true) (long : 512 ≤ len
   unfolding lentVerdict
   lent-verdict = rw (g, le-ltb (length t) 512 long)
 
-  answer-given : (is : List Item) → verdict (holds K) p ≡ given is → readAnswer K p t ≡ given (filledBy is)
+  answer-given : (is : List Item) → verdict (holds K) p ≡ given is → readAnswer K p t ≡ given (filledBy (holds K) is)
   unfolding readAnswer
   answer-given is e = rw (lent-verdict, e)
 
@@ -149,16 +151,16 @@ module _ (K : TagSet) (p t : List ℕ) (g : good K ≡ true) (long : 512 ≤ len
   table-given is e = rw (lent-verdict, e)
 
   -- who has a good set and a table of at least 512 words reads every packet that is allowed
-  pub allowed-read : (is : List Item) → Allowed (holds K) p is → (readAnswer K p t ≡ given (filledBy is)) × (readTable K p t ≡ tableOf (holds K) is t)
+  pub allowed-read : (is : List Item) → Allowed (holds K) p is → (readAnswer K p t ≡ given (filledBy (holds K) is)) × (readTable K p t ≡ tableOf (holds K) is t)
   allowed-read is a = let e = allowed-accepted (holds K) p is a in (answer-given is e, table-given is e)
 
   answer-refused : (n a u : ℕ) → readAnswer K p t ≡ refused n a u → verdict (holds K) p ≡ refused n a u
   unfolding readAnswer
-  answer-refused n a u e = map-refused filledBy (verdict (holds K) p) n a u (rw lent-verdict at e)
+  answer-refused n a u e = map-refused (filledBy (holds K)) (verdict (holds K) p) n a u (rw lent-verdict at e)
 
 -- who answers a count reads what is allowed
 pub read-allowed : (K : TagSet) (p t : List ℕ) (done : Filled) → Bytes p → readAnswer K p t ≡ given done
-    → (is : List Item) × (filledBy is ≡ done) × Allowed (holds K) p is
+    → (is : List Item) × (filledBy (holds K) is ≡ done) × Allowed (holds K) p is
 read-allowed K p t done by e =
     let r = has-read K p t done e in
     (r .items, r .filled, accepted-allowed (holds K) p (r .items) by (r .accepted))
@@ -169,11 +171,15 @@ module _ (K K′ : TagSet) (g : good K ≡ true) (g′ : good K′ ≡ true) (wi
   smaller : (done : Filled) (r : HasRead K′ p t′ done) → verdict (holds K) p ≡ given (r .items)
   smaller done r = larger-accepts (holds K) (holds K′) (within .each) p (r .items) (r .accepted)
 
-  -- a packet that the larger accepts the smaller accepts, with as many rows
-  pub read-larger : (done : Filled) → readAnswer K′ p t′ ≡ given done → readAnswer K p t ≡ given done
-  read-larger done e =
+  -- a packet that the larger accepts the smaller accepts, with as many rows, and those of its words that it knows
+  pub read-larger : Words K → Words K′ → (done : Filled) → readAnswer K′ p t′ ≡ given done
+      → readAnswer K p t ≡ given (record { count = done .count; present = meet (done .present) K })
+  read-larger w w′ done e =
       let r = has-read K′ p t′ done e in
-      answer-given K p t g long (r .items) (smaller done r) ∙ ap given (r .filled)
+      let words = smaller-present K K′ w w′ (good-means K w g) (good-means K′ w′ g′) within (r .items) in
+      answer-given K p t g long (r .items) (smaller done r)
+      ∙ (ap (λ s. given (record { count = length (r .items); present = s })) words
+      ∙ ap (λ f. given (record { count = f .count; present = meet (f .present) K })) (r .filled))
 
   -- the same row for every item whose tag the smaller knows, a carried one with the same place and length for every other
   pub read-rows : (done : Filled) (k : ℕ) → readAnswer K′ p t′ ≡ given done → k < done .count

@@ -12,7 +12,7 @@ use Rattle.base.specs.Every.{Each}
 use Rattle.refusal.specs.Answer.{Answer, given, refused, map, then}
 use Rattle.refusal.proofs.Answers.{passed}
 use Rattle.number.specs.Stored.{valueOf}
-use Rattle.tagset.specs.Sets.{holds, withTag}
+use Rattle.tagset.specs.Sets.{noTags, holds, withTag}
 use Rattle.tagset.specs.declared.TagSet.{TagSet}
 use Rattle.tagset.proofs.Laws.{Words, holds-none}
 use Rattle.knowing.specs.Good.{good}
@@ -21,6 +21,7 @@ use Rattle.catalogue.specs.Shapes.{shapeOf, codeAllowed}
 use Rattle.rows.specs.Meaning.{shapeFor}
 use Rattle.rows.specs.declared.RowWords.{RowWords}
 use Rattle.rows.specs.Taken.{rowGood, tagShown, countGood, rowAt, GoodRow}
+use Rattle.rows.specs.Present.{presentIn}
 use Rattle.packet.specs.Pieces.{Piece}
 use Rattle.packet.specs.Ends.{rightEnds}
 use Rattle.packet.specs.Judge.{Knowing, has, among, Fault, clean, wrong, faultOf, Judged, fine, faulty, noVersion, later, onFault, judgeFrom, judge}
@@ -30,8 +31,9 @@ use Rattle.packet.proofs.Judging.{SeenBy, none-seen, one-seen}
 use Rattle.packet.proofs.Faults.{sixty-three}
 use Rattle.laws.proofs.Written.{length-item, length-encode}
 use Rattle.laws.proofs.Rows.{good-made}
-use Rattle.outgoing.specs.Outgoing.{rightRows, rightSize, lastPiece, endsOf, byRow, sendable, outgoing, packedOf}
-use Rattle.outgoing.specs.code.Staged.{rowsSize, packedBy, rowFault, unlessFaulty, noTags, rowsJudged, endsIn, sizedIn}
+use Rattle.outgoing.specs.Outgoing.{rightRows, agrees, rightSize, lastPiece, endsOf, byRow, sendable, outgoingWith, packedOf}
+use Rattle.outgoing.specs.declared.Handed.{Handed}
+use Rattle.outgoing.specs.code.Staged.{rowsSize, packedBy, rowFault, unlessFaulty, rowsJudged, endsIn, sizedIn, toldIn}
 
 -- no row is bad
 module _ (K : Knowing) (b : List ℕ) where
@@ -186,22 +188,22 @@ module _ (K : TagSet) (w : Words K) (b : List ℕ) where
         ∙ rw (ends-rows (holds K) b words count g, judged-all rs g))
 
     -- the whole, by what was found of the rows
-    module _ (right : good K ≡ true) (few : countGood count (length words) ≡ true) where
-      pub rows-good : rightRows (holds K) (length b) 0 (rowsIn 0 count words) ≡ given tt → map packedOf (outgoing K count words b) ≡ sizedIn K count words
-      unfolding outgoing
-      rows-good e = rw (right, few, e) (sized-all (all-good (holds K) b 0 (rowsIn 0 count words) e))
+    module _ (h : Handed) (right : good K ≡ true) (few : countGood count (length words) ≡ true) where
+      pub rows-good : rightRows (holds K) (length b) 0 (rowsIn 0 count words) ≡ given tt
+          → map packedOf (outgoingWith K h count words b) ≡ toldIn K h count words
+      rows-good e =
+          rw (right, few, e) (byBool (agrees h (presentIn (rowsIn 0 count words)))
+          (λ a. rw a (sized-all (all-good (holds K) b 0 (rowsIn 0 count words) e)))
+          (λ a. rw a))
 
       pub rows-bad : (n p t : ℕ) → rightRows (holds K) (length b) 0 (rowsIn 0 count words) ≡ refused n p t
-          → map packedOf (outgoing K count words b) ≡ refused n p t
-      unfolding outgoing
+          → map packedOf (outgoingWith K h count words b) ≡ refused n p t
       rows-bad n p t e = rw (right, few, e)
 
 -- 16 and 1
-module _ (K : TagSet) (count : ℕ) (words b : List ℕ) where
-  pub too-many : good K ≡ true → countGood count (length words) ≡ false → map packedOf (outgoing K count words b) ≡ refused 16 0 0
-  unfolding outgoing
+module _ (K : TagSet) (h : Handed) (count : ℕ) (words b : List ℕ) where
+  pub too-many : good K ≡ true → countGood count (length words) ≡ false → map packedOf (outgoingWith K h count words b) ≡ refused 16 0 0
   too-many e f = rw (e, f)
 
-  pub not-good : good K ≡ false → map packedOf (outgoing K count words b) ≡ refused 1 0 0
-  unfolding outgoing
+  pub not-good : good K ≡ false → map packedOf (outgoingWith K h count words b) ≡ refused 1 0 0
   not-good e = rw e

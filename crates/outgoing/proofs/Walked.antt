@@ -17,6 +17,7 @@ use Rattle.catalogue.specs.declared.Shape.{Shape}
 use Rattle.rows.specs.Meaning.{shapeFor}
 use Rattle.rows.specs.declared.RowWords.{RowWords}
 use Rattle.rows.specs.Taken.{partLength, rowGood, tagShown, rowAt}
+use Rattle.rows.specs.Present.{withRow, presentFrom}
 use Rattle.packet.specs.Judge.{Knowing, Fault, clean, wrong}
 use Rattle.laws.proofs.Tables.{rows-from, rows-none}
 use Rattle.packet.specs.Rows.{rowsIn}
@@ -75,6 +76,10 @@ module _ (words : List ℕ) (count n : ℕ) where
             let g′ : rowGood (shapeFor K (r .tag)) room r ≡ false = rw shape at g in
             rw (rows-from words n count h, ← same, g′)
 
+      pub words-more : (s : TagSet) → presentFrom s (rowsIn n (count - n) words) ≡ presentFrom (withRow s r) (rowsIn (n + 1) (count - (n + 1)) words)
+      unfolding presentFrom
+      words-more s = rw (rows-from words n count h, ← same)
+
       module _ (K seen : TagSet) where
         judged-by : (f : Fault) → f ≡ rowFault K seen r
             → rowsJudged K seen n (rowsIn n (count - n) words) ≡ unlessFaulty f n (r .tag) (rowsJudged K (withTag seen (r .tag)) (n + 1) rest)
@@ -91,6 +96,10 @@ module _ (words : List ℕ) (count n : ℕ) where
   pub size-end : count ≤ n → rowsSize (rowsIn n (count - n) words) ≡ 0
   unfolding rowsSize
   size-end h = rw (rows-none words n count h)
+
+  pub words-end : (s : TagSet) → count ≤ n → presentFrom s (rowsIn n (count - n) words) ≡ s
+  unfolding presentFrom
+  words-end s h = rw (rows-none words n count h)
 
   pub good-end : (K : Knowing) (room : ℕ) → count ≤ n → rightRows K room n (rowsIn n (count - n) words) ≡ given tt
   unfolding rightRows

@@ -8,11 +8,12 @@ ghost use Rattle.refusal.specs.Numbers.{number};
 ghost use Rattle.refusal.specs.Answer.{refused as refusedBy, map};
 ghost use Rattle.tagset.specs.Sets.{holds};
 ghost use Rattle.catalogue.specs.code.Column.{shapeColumn};
+ghost use Rattle.rows.specs.Present.{presentIn};
 ghost use Rattle.packet.specs.Said.{faultSaid};
 ghost use Rattle.packet.specs.Said.{rightSaid};
 ghost use Rattle.packet.specs.Rows.{rowsIn};
-ghost use Rattle.outgoing.specs.Outgoing.{rightRows, outgoing, packedOf};
-ghost use Rattle.outgoing.specs.code.Staged.{rowSize, rowsSize, packedBy, rowFault, judgedIn, endsIn, closedIn, sizedIn};
+ghost use Rattle.outgoing.specs.Outgoing.{rightRows, agrees, outgoingWith, packedOf};
+ghost use Rattle.outgoing.specs.code.Staged.{rowSize, rowsSize, packedBy, rowFault, judgedIn, endsIn, closedIn, sizedIn, toldIn};
 ghost use Rattle.outgoing.specs.code.Glance.{PlainAs, Plain, PlainRows, PlainEnds, FitsPlainly};
 ghost use Rattle.outgoing.specs.Said.{outgoingSaid};
 use catalogue::Shape;
@@ -34,6 +35,12 @@ pub struct Packed {
 pub enum Outgoing {
     Fits(Packed),
     Refused(Refusal),
+}
+
+// What the writer is handed beside its rows: nothing, or the words that are to be theirs.
+pub enum Handed {
+    Nothing,
+    Words(TagSet),
 }
 
 fn refused(reason: Reason, place: usize, tag: u64) -> Outgoing
@@ -62,6 +69,42 @@ fn rows_right(column: &[u8; 128], known: TagSet, count: usize, words: &[u64], ro
         }
     }
     Right::Yes
+}
+
+// Whether the words handed, if any were, are these.
+fn words_right(handed: Handed, present: TagSet) -> bool
+    ensures { λ r. ⌜ r ≡ agrees handed present ⌝ }
+{
+    match handed {
+        Handed::Nothing => true,
+        Handed::Words(words) => tagset::is_same(words, present),
+    }
+}
+
+// The words of the rows, by a scan: a bit for each that is not carried.
+fn present_of(count: usize, words: &[u64]) -> TagSet
+    ensures { λ r. ⌜ r ≡ presentIn (rowsIn 0 count (now (words .entry))) ⌝ }
+{
+    let mut present = TagSet { low: 0, high: 0 };
+    let mut n: usize = 0;
+    while n < count {
+        let row = rows::row_at(words, n);
+        if row.kind != rows::CARRIED {
+            present = tagset::with_tag(present, row.tag);
+        }
+        n += 1;
+    }
+    present
+}
+
+// Whether they are the rows' own; where nothing was handed, no row is looked at.
+fn rows_agree(handed: Handed, count: usize, words: &[u64]) -> bool
+    ensures { λ r. ⌜ r ≡ agrees handed (presentIn (rowsIn 0 count (now (words .entry)))) ⌝ }
+{
+    match handed {
+        Handed::Nothing => true,
+        Handed::Words(_) => words_right(handed, present_of(count, words)),
+    }
 }
 
 // How many bytes a row's item has.
@@ -206,6 +249,17 @@ fn sized(column: &[u8; 128], known: TagSet, count: usize, words: &[u64]) -> Outg
     closed(column, known, count, words, packed)
 }
 
+// The words handed before that.
+fn told(column: &[u8; 128], known: TagSet, handed: Handed, count: usize, words: &[u64]) -> Outgoing
+    requires { ⌜ (now column ≡ shapeColumn) × (count ≤ 128) ⌝ }
+    ensures { λ r. ⌜ outgoingSaid r ≡ toldIn known handed count (now (words .entry)) ⌝ }
+{
+    if rows_agree(handed, count, words) {
+        return sized(column, known, count, words);
+    }
+    refused(Reason::WordsDisagree, 0, 0)
+}
+
 // How many bytes the item of a known row has, where the row is plainly right and the first of its tag; else 0.
 fn known_size(shape: Shape, room: usize, row: RowWords) -> usize
     ensures { λ r. ⌜ (0 < r → PlainAs shape room row r) ⌝ }
@@ -311,37 +365,47 @@ fn ends_at_a_glance(count: usize, words: &[u64], items: usize) -> Packed
 fn at_a_glance(
     column: &[u8; 128],
     known: TagSet,
+    handed: Handed,
     count: usize,
     words: &[u64],
     room: usize,
 ) -> Packed
     requires { ⌜ (now column ≡ shapeColumn) × (count ≤ 128) ⌝ }
-    ensures { λ r. ⌜ (0 < r .size → FitsPlainly known room count (now (words .entry)) r) ⌝ }
+    ensures { λ r. ⌜ (0 < r .size → FitsPlainly known handed room count (now (words .entry)) r) ⌝ }
 {
     let glance = rows_at_a_glance(column, known, count, words, room);
     if glance.right {
         if tagset::has(glance.seen, 65) {
-            return ends_at_a_glance(count, words, glance.items);
+            // of rows that are plainly right just those of known tags are not carried
+            if words_right(handed, tagset::meet_of(glance.seen, known)) {
+                return ends_at_a_glance(count, words, glance.items);
+            }
         }
     }
     Packed { size: 0, items: 0 }
 }
 
-// What count rows in lent words come to, with the buffer that text and carried rows point into: document 01's refusals of the
-// writer in their order, but for 18.
-pub fn check_rows(known: TagSet, count: usize, words: &[u64], buffer: &[u8]) -> Outgoing
-    ensures { λ r. ⌜ outgoingSaid r ≡ map packedOf (outgoing known count (now (words .entry)) (now (buffer .entry))) ⌝ }
+// What count rows in lent words come to, with what was handed beside them and the buffer that text and carried rows point into:
+// document 01's refusals of the writer in their order, but for 18, and W-201's 22.
+pub fn check_rows(
+    known: TagSet,
+    handed: Handed,
+    count: usize,
+    words: &[u64],
+    buffer: &[u8],
+) -> Outgoing
+    ensures { λ r. ⌜ outgoingSaid r ≡ map packedOf (outgoingWith known handed count (now (words .entry)) (now (buffer .entry))) ⌝ }
 {
     if knowing::is_good(known) {
         if rows::is_good_count(count, words.len()) {
             let column = catalogue::shapes();
-            let packed = at_a_glance(&column, known, count, words, buffer.len());
+            let packed = at_a_glance(&column, known, handed, count, words, buffer.len());
             if 0 < packed.size {
                 return Outgoing::Fits(packed);
             }
             return match rows_right(&column, known, count, words, buffer.len()) {
                 Right::Refused(refusal) => Outgoing::Refused(refusal),
-                Right::Yes => sized(&column, known, count, words),
+                Right::Yes => told(&column, known, handed, count, words),
             };
         }
         return refused(Reason::RowCountTooLarge, 0, 0);

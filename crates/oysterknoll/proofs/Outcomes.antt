@@ -12,6 +12,10 @@ use Rattle.oysterknoll.proofs.oyk_take_row.Kinds as take-row-kinds
 use Rattle.oysterknoll.proofs.oyk_take_row.Reads as take-row-reads
 use Rattle.oysterknoll.proofs.oyk_write.Kinds as write-kinds
 use Rattle.oysterknoll.proofs.oyk_write.Reads as write-reads
+use Rattle.oysterknoll.proofs.oyk_write_with.Kinds as write-with-kinds
+use Rattle.oysterknoll.proofs.oyk_write_with.Reads as write-with-reads
+use Rattle.oysterknoll.proofs.oyk_has.Kinds as has-kinds
+use Rattle.oysterknoll.proofs.oyk_has.Reads as has-reads
 use Rattle.oysterknoll.proofs.oyk_forward.Kinds as forward-kinds
 use Rattle.oysterknoll.proofs.oyk_forward.Reads as forward-reads
 use Rattle.oysterknoll.proofs.oyk_to_house.Kinds as to-house-kinds
@@ -46,6 +50,12 @@ take-row-determined κs a z z′ e e′ p q = p ∙ sym q
 
 pub write-determined : Determined 3 write-kinds.ps write-kinds.r write-reads.Post (List ℕ) (λ κs e. e .1 .1 .1 .1 .1 .0 .now)
 write-determined κs a z z′ e e′ p q = (p .0 ∙ sym (q .0), p .1 ∙ sym (q .1))
+
+pub write-with-determined : Determined 3 write-with-kinds.ps write-with-kinds.r write-with-reads.Post (List ℕ) (λ κs e. e .1 .1 .1 .1 .1 .1 .1 .0 .now)
+write-with-determined κs a z z′ e e′ p q = (p .0 ∙ sym (q .0), p .1 ∙ sym (q .1))
+
+pub has-determined : Answered 0 has-kinds.ps has-kinds.r has-reads.Post
+has-determined κs a z z′ e e′ p q = p ∙ sym q
 
 pub forward-determined : Determined 2 forward-kinds.ps forward-kinds.r forward-reads.Post (List ℕ) (λ κs e. e .1 .1 .1 .0 .now)
 forward-determined κs a z z′ e e′ p q = (p .0 ∙ sym (q .0), p .1 ∙ sym (q .1))

@@ -4,6 +4,8 @@ use mathlib.Core.Bool.{cond}
 use lib.Dec.{eqb}
 use lib.IntN.{ℤ, pos}
 use Rattle.refusal.specs.Answer.{Answer, given, refused}
+use Rattle.tagset.specs.Sets.{noTags, holds}
+use Rattle.tagset.specs.declared.TagSet.{TagSet}
 use Rattle.catalogue.specs.Rows.{isSigned}
 use Rattle.catalogue.specs.Shapes.{isMarked}
 use Rattle.catalogue.specs.declared.Sign.{Sign}
@@ -24,6 +26,7 @@ use Rattle.walker.specs.declared.Seen.the-variants.{Item as here, NoMore}
 use Rattle.ground.specs.Ground.{HeightSeen, noHeight, overEllipsoid, overSeaLevel, CornerSeen, noCorner, offTheEarth, on}
 use Rattle.oysterknoll.specs.declared.Refusal.{Refusal}
 use Rattle.oysterknoll.specs.declared.Row.{Row}
+use Rattle.oysterknoll.specs.declared.Present.{Present}
 use Rattle.oysterknoll.specs.declared.CountAnswer.{CountAnswer}
 use Rattle.oysterknoll.specs.declared.SizeAnswer.{SizeAnswer}
 use Rattle.oysterknoll.specs.declared.RowAnswer.{RowAnswer}
@@ -37,7 +40,7 @@ use Rattle.oysterknoll.specs.declared.ItemAnswer.{ItemAnswer}
 
 -- of header and archive
 abbrev pub version : ℕ
-version = 1
+version = 2
 
 abbrev pub refusing : ℕ → ℕ → ℕ → Refusal
 refusing n place tag = record { number = n; place = place; tag = tag }
@@ -50,15 +53,23 @@ abbrev pub saying : {A S : Type 0} → (A → S) → (Refusal → S) → Answer 
 saying say refuse (given a) = say a
 saying say refuse (refused n place tag) = refuse (refusing n place tag)
 
--- how many items, how many rows
-abbrev pub counting : Refusal → ℕ → CountAnswer
-counting r n = record { refusal = r; count = n }
+-- W-201's two words
+abbrev pub presenting : TagSet → Present
+presenting s = record { low = s .low; high = s .high }
+
+-- how many items, how many rows, and which known ones are there
+abbrev pub counting : Refusal → ℕ → TagSet → CountAnswer
+counting r n s = record { refusal = r; count = n; present = presenting s }
 
 abbrev pub itemsAnswer : Answer Accepted → CountAnswer
-itemsAnswer = saying (λ a. counting nothing (a .count)) (λ r. counting r 0)
+itemsAnswer = saying (λ a. counting nothing (a .count) (a .present)) (λ r. counting r 0 noTags)
 
 abbrev pub rowsAnswer : Answer Filled → CountAnswer
-rowsAnswer = saying (λ f. counting nothing (f .count)) (λ r. counting r 0)
+rowsAnswer = saying (λ f. counting nothing (f .count) (f .present)) (λ r. counting r 0 noTags)
+
+-- "answer from them alone": 1 where the bit of a tag is set, else 0
+abbrev pub hasAnswer : TagSet → ℕ → ℕ
+hasAnswer s tag = cond (holds s tag) 1 0
 
 -- how many bytes of a packet, how many of a listing
 abbrev pub sizing : Refusal → ℕ → SizeAnswer

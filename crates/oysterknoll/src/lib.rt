@@ -7,7 +7,8 @@ ghost use Rattle.refusal.specs.Answer.{map};
 ghost use Rattle.rows.specs.Taken.{rowAt, rowTakenAt, partPlace, partLength};
 ghost use Rattle.packet.specs.Verdict.{checked};
 ghost use Rattle.packet.specs.Rows.{readAnswer, readTable};
-ghost use Rattle.writer.specs.Writes.{writeAnswer, writeOutput};
+ghost use Rattle.outgoing.specs.declared.Handed.the-variants.{Words};
+ghost use Rattle.writer.specs.Writes.{writeAnswer, writeOutput, writeAnswerWith, writeOutputWith};
 ghost use Rattle.relay.specs.Forwards.{forwardAnswer, forwardOutput};
 ghost use Rattle.ground.specs.Said.{heightSaid};
 ghost use Rattle.ground.specs.Ground.{sensorHeight, frameCentreHeight, cornerOf};
@@ -18,7 +19,7 @@ ghost use Rattle.catalogue.specs.Items.{itemOf, unitOf};
 ghost use Rattle.walker.specs.Steps.{seenAt};
 ghost use Rattle.oysterknoll.specs.Answers.{version, refusing, rowing, storedAs, markedAs, listing, itemsAnswer, rowsAnswer, bytesAnswer};
 ghost use Rattle.oysterknoll.specs.Answers.{linesAnswer, rowAnswer, startAnswer, nextAnswer, valueAnswer, codeAnswer, heightAnswer};
-ghost use Rattle.oysterknoll.specs.Answers.{cornerAnswer, itemAnswer};
+ghost use Rattle.oysterknoll.specs.Answers.{cornerAnswer, itemAnswer, hasAnswer};
 use catalogue::Found;
 use catalogue::Item;
 use catalogue::Sign;
@@ -38,7 +39,7 @@ use walker::Begin;
 use walker::Seen;
 use writer::Writing;
 
-const VERSION: u64 = 1;
+const VERSION: u64 = 2;
 
 // Kinds of a height and of a corner, and how an item is stored.
 const MISSING: u64 = 0;
@@ -91,11 +92,21 @@ const NO_ROW: Row = Row {
     length: 0,
 };
 
-// How many items or rows.
+// Which known items are there: tag t is bit t of the pair.
+#[repr(C)]
+pub struct Present {
+    pub low: u64,
+    pub high: u64,
+}
+
+const NO_TAGS: Present = Present { low: 0, high: 0 };
+
+// How many items or rows, and which known ones.
 #[repr(C)]
 pub struct CountAnswer {
     pub refusal: Refusal,
     pub count: usize,
+    pub present: Present,
 }
 
 // How many bytes at the front of the output.
@@ -185,7 +196,7 @@ fn refused(cause: Cause) -> Refusal
     }
 }
 
-// Whether a packet is accepted, and how many items it has.
+// Whether a packet is accepted, how many items it has, and which known ones are there.
 #[no_mangle]
 pub extern "C" fn oyk_check(packet: &[u8], low: u64, high: u64) -> CountAnswer
     ensures { λ r. ⌜ r ≡ itemsAnswer (checked (knowing low high) (now (packet .entry))) ⌝ }
@@ -194,15 +205,24 @@ pub extern "C" fn oyk_check(packet: &[u8], low: u64, high: u64) -> CountAnswer
         Checked::Refused(cause) => CountAnswer {
             refusal: refused(cause),
             count: 0,
+            present: NO_TAGS,
         },
-        Checked::Accepted(accepted) => CountAnswer {
-            refusal: NONE,
-            count: accepted.count,
-        },
+        Checked::Accepted(accepted) => {
+            let set = accepted.present;
+            let present = Present {
+                low: set.low,
+                high: set.high,
+            };
+            CountAnswer {
+                refusal: NONE,
+                count: accepted.count,
+                present,
+            }
+        }
     }
 }
 
-// Reads a packet into a table: how many rows there are.
+// Reads a packet into a table: how many rows there are, and which known items.
 #[no_mangle]
 pub extern "C" fn oyk_read(packet: &[u8], low: u64, high: u64, table: &mut [u64]) -> CountAnswer
     ensures { λ r. ⌜ r ≡ rowsAnswer (readAnswer (knowing low high) (now (packet .entry)) (now (table .entry))) ⌝ }
@@ -212,12 +232,36 @@ pub extern "C" fn oyk_read(packet: &[u8], low: u64, high: u64, table: &mut [u64]
         Reading::Refused(cause) => CountAnswer {
             refusal: refused(cause),
             count: 0,
+            present: NO_TAGS,
         },
-        Reading::Rows(filled) => CountAnswer {
-            refusal: NONE,
-            count: filled.count,
-        },
+        Reading::Rows(filled) => {
+            let set = filled.present;
+            let present = Present {
+                low: set.low,
+                high: set.high,
+            };
+            CountAnswer {
+                refusal: NONE,
+                count: filled.count,
+                present,
+            }
+        }
     }
+}
+
+// Whether an item is there, by the words of an answer alone: 1, or 0.
+#[no_mangle]
+pub extern "C" fn oyk_has(present_low: u64, present_high: u64, tag: u64) -> u64
+    ensures { λ r. ⌜ r ≡ hasAnswer (knowing «present_low» «present_high») tag ⌝ }
+{
+    let present = TagSet {
+        low: present_low,
+        high: present_high,
+    };
+    if tagset::has(present, tag) {
+        return 1;
+    }
+    0
 }
 
 fn row_told(row: RowWords) -> Row
@@ -316,6 +360,39 @@ pub extern "C" fn oyk_write(
     ensures { λ _. ⌜ now (out .exit) ≡ writeOutput (knowing low high) count (now (words .entry)) (now (buffer .entry)) (now (out .entry)) ⌝ }
 {
     match writer::write(TagSet { low, high }, count, words, buffer, out) {
+        Writing::Refused(cause) => SizeAnswer {
+            refusal: refused(cause),
+            size: 0,
+        },
+        Writing::Packet(written) => SizeAnswer {
+            refusal: NONE,
+            size: written.size,
+        },
+    }
+}
+
+// The same, handed the words that say which items are there: words that a scan of the rows would not give are refused.
+#[no_mangle]
+pub extern "C" fn oyk_write_with(
+    words: &[u64],
+    count: usize,
+    buffer: &[u8],
+    low: u64,
+    high: u64,
+    present_low: u64,
+    present_high: u64,
+    out: &mut [u8],
+) -> SizeAnswer
+    ensures { λ r. ⌜ r ≡ bytesAnswer (writeAnswerWith (knowing low high) (Words (knowing «present_low» «present_high»)) count (now (words .entry))
+        (now (buffer .entry)) (now (out .entry))) ⌝ }
+    ensures { λ _. ⌜ now (out .exit) ≡ writeOutputWith (knowing low high) (Words (knowing «present_low» «present_high»)) count (now (words .entry))
+        (now (buffer .entry)) (now (out .entry)) ⌝ }
+{
+    let present = TagSet {
+        low: present_low,
+        high: present_high,
+    };
+    match writer::write_with(TagSet { low, high }, present, count, words, buffer, out) {
         Writing::Refused(cause) => SizeAnswer {
             refusal: refused(cause),
             size: 0,

@@ -53,7 +53,7 @@ structure-short p is e =
     (λ h. not-given (ap (λ a. then a (λ from. then (walk 128 from (drop from p)) (closed p))) (sym (too-long p h)) ∙ e))
     (λ h. h)
 
-placed-given : (js is : List Item) (j : Judged) → placed js j ≡ given is → (js ≡ is) × (j ≡ fine)
+pub placed-given : (js is : List Item) (j : Judged) → placed js j ≡ given is → (js ≡ is) × (j ≡ fine)
 placed-given js is fine e = (given-same e, refl)
 placed-given js is (faulty k n t) e = not-given e
 placed-given js is noVersion e = not-given e

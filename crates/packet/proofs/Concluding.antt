@@ -4,28 +4,32 @@ use Prim.Native.Nat.{ℕ, zero, suc, _+_, _-_, _≤_}
 use native.Mathlib.Omega.{arith}
 use native.Mathlib.Nat.{zero-add}
 use mathlib.Core.Path.{_≡_, refl, ap, sym, _∙_}
-use mathlib.Core.Bool.{Bool, true, false, not}
+use mathlib.Core.Bool.{true, not}
 use mathlib.Core.List.{List, [], _∷_}
 use lib.Dec.{eqb}
+use borrow.Author.Tests.{eqb-true}
 use lib.ListN.{length, take, drop, getD, set, replicate}
-use Rattle.base.proofs.Cases.{byBool, clash}
+use Rattle.base.proofs.Cases.{byBool}
 use Rattle.base.proofs.Every.{both-left, both-right}
 use Rattle.base.proofs.Parts.{nil-at}
 use Rattle.refusal.specs.Answer.{Answer, given, refused, map, then, orElse}
 use Rattle.refusal.proofs.Answers.{not-given, given-same, passed, then-given, then-then, map-given, map-refused, map-then}
 use Rattle.number.specs.Stored.{Bytes}
 use Rattle.ber.specs.Read.{readTag}
-use Rattle.tagset.specs.Sets.{holds}
+use Rattle.tagset.specs.Sets.{noTags, holds, size}
 use Rattle.tagset.specs.declared.TagSet.{TagSet}
 use Rattle.tagset.proofs.Laws.{Words}
+use Rattle.tagset.proofs.Counting.{size-none}
 use Rattle.knowing.specs.Good.{good}
 use Rattle.knowing.proofs.Laws.{good-means}
+use Rattle.rows.specs.Present.{presentIn}
 use Rattle.packet.specs.Pieces.{Item, pieces, readItem, walk}
-use Rattle.packet.specs.Judge.{Judged, fine, faulty, noVersion, judge}
+use Rattle.packet.specs.Seen.{rowsOf}
+use Rattle.packet.specs.Judge.{judge}
 use Rattle.packet.specs.Ends.{rightEnds}
 use Rattle.packet.specs.Structure.{frame, lastOf, endsOf, rightSum, lastSum, closed, structure}
 use Rattle.packet.specs.Encode.{longerOf}
-use Rattle.packet.specs.Verdict.{startOf, placed, judged, bodyOf, verdict, received, noPast, pastFrom, checked}
+use Rattle.packet.specs.Verdict.{startOf, judged, bodyOf, verdict, received, noPast, pastFrom, checked}
 use Rattle.packet.specs.Said.{headerAt}
 use Rattle.packet.specs.code.Headers.{headerOf}
 use Rattle.packet.specs.code.Passing.{Kept, kept, freshAt, keptFrom, Passes}
@@ -37,16 +41,13 @@ use Rattle.packet.specs.declared.Accepted.{Accepted}
 use Rattle.packet.proofs.Frames.{framed-given}
 use Rattle.packet.proofs.Walks.{walk-end, kept-none, header-lies, header-back}
 use Rattle.packet.proofs.Walked.{Walked, done, went, walked, Within, last-within, first-start, header-start}
-use Rattle.packet.proofs.Passing.{kept-count, kept-longer, kept-last, kept-past, tracks-none, glance-clean}
+use Rattle.packet.proofs.Passing.{kept-count, kept-longer, kept-last, kept-past, kept-present, tracks-none, marks-none, glance-clean}
+use Rattle.packet.proofs.Accepting.{AllFit, fine-fit, placed-given}
 
 -- no item stands past the end
 past-none : (p : List ℕ) (at : ℕ) → length p ≤ at → headerIn p at ≡ noHeader
 unfolding headerAt readItem readTag
 past-none p at h = rw (nil-at p at h)
-
-not-true : (b : Bool) → not b ≡ true → b ≡ false
-not-true true e = clash (sym e)
-not-true false e = refl
 
 -- first, last and sum, and then something
 bare-closed : (is : List Item) (ends sum : Answer (Unit {0})) (next : List Item → Answer (List Item))
@@ -69,21 +70,24 @@ none-within (suc n) m zero = omega arith
 none-within (suc n) m (suc t) = none-within n m t
 
 -- what is closed and judged are the items themselves
-placed-same : (is js : List Item) (j : Judged) → placed is j ≡ given js → js ≡ is
-placed-same is js fine e = sym (given-same e)
-placed-same is js (faulty k n t) e = not-given e
-placed-same is js noVersion e = not-given e
-
 record Accepts (K : TagSet) (p : List ℕ) (is js : List Item) : Type 0 where
   ends : rightEnds (endsOf p is) ≡ given tt
   same : js ≡ is
+  fits : AllFit (holds K) is
 
 accepts : (K : TagSet) (p : List ℕ) (is js : List Item) → then (closed p is) (judged (holds K)) ≡ given js → Accepts K p is js
+unfolding judge
 accepts K p is js e =
     let b = then-given (closed p is) (judged (holds K)) e in
     let c = then-given (rightEnds (endsOf p is)) _ (b .first) in
     let d = then-given (lastSum p is) _ (c .second) in
-    record { ends = c .first; same = placed-same (b .between) js (judge (holds K) (pieces (b .between))) (b .second) ∙ sym (given-same (d .second)) }
+    let f = placed-given (b .between) js (judge (holds K) (pieces (b .between))) (b .second) in
+    let same : b .between ≡ is = sym (given-same (d .second)) in
+    record {
+      ends = c .first;
+      same = sym (f .0) ∙ same;
+      fits = fine-fit (holds K) [] is (rw same at (f .1));
+    }
 
 -- where the last item starts; where there is none, where the items begin
 abbrev lastStart : ℕ → List Item → ℕ
@@ -139,14 +143,15 @@ module _ (p : List ℕ) (by : Bytes p) (from : ℕ) (inside : from ≤ length p)
       let size : length (take (g .size) (drop (g .place) p)) ≡ g .size = ap (λ z. z .size) (header-back p g (header-lies p at by g e .inside)) in
       past-in _ is rest (record { inside = λ t. set-within l _ _ (length p) t (rw size (header-lies p at by g e .inside)) (h .inside) })
 
-module _ (K : TagSet) (words : Words K) (p : List ℕ) (by : Bytes p) (from : ℕ) (r : Passed) (past : List ℕ) (w : Whole K p from r past) where
+module _ (K : TagSet) (words : Words K) (p : List ℕ) (by : Bytes p) (from : ℕ) (r : Passed) (past : List ℕ) (present : TagSet)
+    (w : Whole K p from r past present) where
   went-all : Walked p from (w .items)
   went-all = walked p by 128 from (w .items) (w .walked)
 
-  last-place : (is : List Item) → keptFrom K (freshAt from noPast) is .passed .last ≡ lastStart from is
+  last-place : (is : List Item) → keptFrom K (freshAt from noPast noTags) is .passed .last ≡ lastStart from is
   unfolding keptFrom
   last-place [] = refl
-  last-place (i ∷ is) = kept-last K (freshAt from noPast) i is
+  last-place (i ∷ is) = kept-last K (freshAt from noPast noTags) i is
 
   abbrev last : Header
   last = headerIn p (r .last)
@@ -160,7 +165,7 @@ module _ (K : TagSet) (words : Words K) (p : List ℕ) (by : Bytes p) (from : �
   last-inside = closed-last .lies
 
   past-is : pastFrom noPast (w .items) ≡ past
-  past-is = sym (kept-past K (freshAt from noPast) (w .items)) ∙ ap (λ k. k .past) (w .keeps)
+  past-is = sym (kept-past K (freshAt from noPast noTags) (w .items)) ∙ ap (λ k. k .past) (w .keeps)
 
   pub past-inside : PastIn (length p) past
   past-inside = rw past-is at (past-in p by from (w .inside) noPast (w .items) went-all (record { inside = none-within 128 (length p) }))
@@ -171,25 +176,26 @@ module _ (K : TagSet) (words : Words K) (p : List ℕ) (by : Bytes p) (from : �
       rw (w .walked, closed-same p by from (w .inside) (w .items) last closed-last)
       (bare-closed (w .items) (rightEnds (endsOf p (w .items))) (lastSum p (w .items)) (judged (holds K)))
 
-  -- nothing gathered: the judgement is that nothing is wrong
-  pub clean-right : cleanIn K p past (r .wrong) ≡ true → judgedFrom K p from ≡ given tt
+  -- as many tags noted as known items: the judgement is that nothing is wrong
+  pub clean-right : cleanIn K p past present (r .known) ≡ true → judgedFrom K p from ≡ given tt
   unfolding cleanIn judge
   clean-right e =
-      let a = both-right (not (r .wrong)) _ e in
+      let a = both-right (eqb (size present) (r .known)) _ e in
       let b = both-right (not (eqb (getD past 65 0) 0)) _ a in
-      let wrong : r .wrong ≡ false = not-true (r .wrong) (both-left (not (r .wrong)) _ e) in
+      let even : size present ≡ r .known = eqb-true _ _ (both-left (eqb (size present) (r .known)) _ e) in
       let there : not (eqb (getD past 65 0) 0) ≡ true = both-left (not (eqb (getD past 65 0) 0)) _ a in
-      let fine = glance-clean K (good-means K words (w .known)) words p by past
+      let knows = good-means K words (w .known) in
+      let fine = glance-clean K knows words p by past
       (both-left (codedIn K p past 34) _ b) (both-right (codedIn K p past 34) _ b)
-      (freshAt from noPast) [] (w .items) tracks-none went-all
-      (ap (λ k. k .passed .wrong) (w .keeps) ∙ wrong) (ap (λ k. k .past) (w .keeps)) in
+      (freshAt from noPast noTags) [] (w .items) tracks-none (marks-none K knows words) (sym size-none) went-all
+      (ap (λ k. k .passed .known) (w .keeps) ∙ (sym even ∙ ap (λ k. size (k .present)) (sym (w .keeps)))) (ap (λ k. k .past) (w .keeps)) in
       rw (w .walked, fine, there)
 
   -- what the answer is made of
   abbrev pub walkedAnswer : Answer (List Item)
   walkedAnswer = then (closed p (w .items)) (judged (holds K))
 
-  pub by-items : map bodyOf (then (walk 128 from (drop from p)) (λ is. then (closed p is) (judged (holds K)))) ≡ map bodyOf walkedAnswer
+  pub by-items : map (bodyOf (holds K)) (then (walk 128 from (drop from p)) (λ is. then (closed p is) (judged (holds K)))) ≡ map (bodyOf (holds K)) walkedAnswer
   by-items = rw (w .walked)
 
   pub by-right : rightFrom K p from ≡ bare walkedAnswer
@@ -197,8 +203,8 @@ module _ (K : TagSet) (words : Words K) (p : List ℕ) (by : Bytes p) (from : �
 
   -- a refusal is passed on
   pub right-refused : (n a t : ℕ) → rightFrom K p from ≡ refused n a t
-      → map bodyOf (then (walk 128 from (drop from p)) (λ is. then (closed p is) (judged (holds K)))) ≡ refused n a t
-  right-refused n a t e = by-items ∙ ap (map bodyOf) (map-refused (λ _. tt) walkedAnswer n a t (sym by-right ∙ e))
+      → map (bodyOf (holds K)) (then (walk 128 from (drop from p)) (λ is. then (closed p is) (judged (holds K)))) ≡ refused n a t
+  right-refused n a t e = by-items ∙ ap (map (bodyOf (holds K))) (map-refused (λ _. tt) walkedAnswer n a t (sym by-right ∙ e))
 
   -- an accepted packet begins with its first item
   starts : (is : List Item) → Walked p from is → rightEnds (endsOf p is) ≡ given tt → startOf 0 is ≡ from
@@ -207,41 +213,44 @@ module _ (K : TagSet) (words : Words K) (p : List ℕ) (by : Bytes p) (from : �
   starts (i ∷ is) v e = first-start p i is v
 
   pub right-given : rightFrom K p from ≡ given tt
-      → map bodyOf (then (walk 128 from (drop from p)) (λ is. then (closed p is) (judged (holds K))))
-      ≡ given (record { from = from; count = r .count; longer = r .longer })
+      → map (bodyOf (holds K)) (then (walk 128 from (drop from p)) (λ is. then (closed p is) (judged (holds K))))
+      ≡ given (record { from = from; count = r .count; longer = r .longer; present = present })
+  unfolding presentIn
   right-given e =
       let a = map-given (λ _. tt) walkedAnswer (sym by-right ∙ e) in
       let b = accepts K p (w .items) (a .0) (a .1) in
-      let fresh = freshAt from noPast in
+      let fresh = freshAt from noPast noTags in
       let count : length (w .items) ≡ r .count =
       sym (kept-count K fresh (w .items) ∙ zero-add (length (w .items))) ∙ ap (λ k. k .passed .count) (w .keeps) in
       let longer : longerOf (w .items) ≡ r .longer =
       sym (kept-longer K fresh (w .items) ∙ zero-add (longerOf (w .items))) ∙ ap (λ k. k .passed .longer) (w .keeps) in
-      by-items ∙ (ap (map bodyOf) (a .1 ∙ ap given (b .same)) ∙ rw (starts (w .items) went-all (b .ends), count, longer))
+      let noted : presentIn (rowsOf (holds K) (w .items)) ≡ present =
+      sym (kept-present K (good-means K words (w .known)) words fresh (w .items) (b .fits)) ∙ ap (λ k. k .present) (w .keeps) in
+      by-items ∙ (ap (map (bodyOf (holds K))) (a .1 ∙ ap given (b .same)) ∙ rw (starts (w .items) went-all (b .ends), count, longer, noted))
 
   pub past-items : past ≡ pastFrom noPast (itemsAt p from)
   past-items = sym (rw (w .walked) past-is)
 
 -- a walk that has come to the packet's end, and one that has stopped before
-module _ (K : TagSet) (p : List ℕ) (from : ℕ) (before : List ℕ) (b : Begins K p from before) (r : Passed) (past : List ℕ)
-    (e : Passes K p from before r past) where
+module _ (K : TagSet) (p : List ℕ) (from : ℕ) (before : List ℕ) (b : Begins K p from before) (r : Passed) (past : List ℕ) (present : TagSet)
+    (e : Passes K p from before noTags r past present) where
   abbrev all : Answer Kept
-  all = kept K (freshAt from noPast) (walk 128 from (drop from p))
+  all = kept K (freshAt from noPast noTags) (walk 128 from (drop from p))
 
-  goes-on : kept K (record { passed = r; past = past }) (walk (128 - r .count) (r .here) (drop (r .here) p)) ≡ all
-  goes-on = e .goes ∙ ap (λ l. kept K (freshAt from l) (walk 128 from (drop from p))) (b .none)
+  goes-on : kept K (record { passed = r; past = past; present = present }) (walk (128 - r .count) (r .here) (drop (r .here) p)) ≡ all
+  goes-on = e .goes ∙ ap (λ l. kept K (freshAt from l noTags) (walk 128 from (drop from p))) (b .none)
 
-  pub passes-whole : length p ≤ r .here → Whole K p from r past
+  pub passes-whole : length p ≤ r .here → Whole K p from r past present
   passes-whole h =
-      let w = map-given (keptFrom K (freshAt from noPast)) (walk 128 from (drop from p))
+      let w = map-given (keptFrom K (freshAt from noPast noTags)) (walk 128 from (drop from p))
       (sym goes-on ∙ (ap (kept K _) (walk-end p (r .here) (128 - r .count) h) ∙ kept-none K _)) in
       record { known = b .known; inside = b .inside; items = w .0; walked = w .1; keeps = w .2 }
 
   pub passes-refused : (n a t : ℕ) → walk (128 - r .count) (r .here) (drop (r .here) p) ≡ refused n a t
-      → map bodyOf (then (walk 128 from (drop from p)) (λ is. then (closed p is) (judged (holds K)))) ≡ refused n a t
+      → map (bodyOf (holds K)) (then (walk 128 from (drop from p)) (λ is. then (closed p is) (judged (holds K)))) ≡ refused n a t
   passes-refused n a t f =
-      ap (λ x. map bodyOf (then x (λ is. then (closed p is) (judged (holds K)))))
-      (map-refused (keptFrom K (freshAt from noPast)) (walk 128 from (drop from p)) n a t (sym goes-on ∙ ap (kept K _) f))
+      ap (λ x. map (bodyOf (holds K)) (then x (λ is. then (closed p is) (judged (holds K)))))
+      (map-refused (keptFrom K (freshAt from noPast noTags)) (walk 128 from (drop from p)) n a t (sym goes-on ∙ ap (kept K _) f))
 
 -- the verdict and the check, by where the items begin
 abbrev itemsFrom : TagSet → List ℕ → ℕ → Answer (List Item)
@@ -255,9 +264,9 @@ received-begun K p = byBool (good K) (λ e. rw e (go (frame p))) (λ e. rw e)
     go (given from) = then-then (walk 128 from (drop from p)) (closed p) (judged (holds K))
     go (refused n a t) = refl
 
-pub checked-begun : (K : TagSet) (p : List ℕ) (a : Answer ℕ) → begunBy K p ≡ a → checked K p ≡ then a (λ from. map bodyOf (itemsFrom K p from))
+pub checked-begun : (K : TagSet) (p : List ℕ) (a : Answer ℕ) → begunBy K p ≡ a → checked K p ≡ then a (λ from. map (bodyOf (holds K)) (itemsFrom K p from))
 unfolding checked
-checked-begun K p a e = ap (map bodyOf) (received-begun K p ∙ ap (λ x. then x (itemsFrom K p)) e) ∙ map-then bodyOf a (itemsFrom K p)
+checked-begun K p a e = ap (map (bodyOf (holds K))) (received-begun K p ∙ ap (λ x. then x (itemsFrom K p)) e) ∙ map-then (bodyOf (holds K)) a (itemsFrom K p)
 
 -- a packet of a right frame
 pub begins : (K : TagSet) (p : List ℕ) (from : ℕ) → begunBy K p ≡ given from → Begins K p from noPast
@@ -269,12 +278,12 @@ begins K p from e =
 -- the places past the items, where a packet is accepted
 pub located-refused : (K : TagSet) (p : List ℕ) (n a t : ℕ) → checked K p ≡ refused n a t → orElse noPast (pastFrom noPast) (received K p) ≡ noPast
 unfolding checked
-located-refused K p n a t e = ap (orElse noPast (pastFrom noPast)) (map-refused bodyOf (received K p) n a t e)
+located-refused K p n a t e = ap (orElse noPast (pastFrom noPast)) (map-refused (bodyOf (holds K)) (received K p) n a t e)
 
 pub located-given : (K : TagSet) (p : List ℕ) (from : ℕ) (a : Accepted) → begunBy K p ≡ given from → checked K p ≡ given a
     → orElse noPast (pastFrom noPast) (received K p) ≡ pastFrom noPast (itemsAt p from)
 unfolding checked
 located-given K p from a e f =
-    let r = map-given bodyOf (received K p) f in
+    let r = map-given (bodyOf (holds K)) (received K p) f in
     let b = then-given (walk 128 from (drop from p)) _ (sym (received-begun K p ∙ ap (λ x. then x (itemsFrom K p)) e) ∙ r .1) in
     rw (r .1, b .first) (ap (pastFrom noPast) (accepts K p (b .between) (r .0) (b .second) .same))

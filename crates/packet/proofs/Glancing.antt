@@ -3,13 +3,13 @@
 use Prim.Native.Nat.{ℕ, _+_, _-_, _/_, _%_, _^_, _<_, _≤_}
 use native.Mathlib.Omega.{arith}
 use mathlib.Core.Path.{_≡_, refl, sym}
-use mathlib.Core.Bool.{Bool, true, false, not, _&&_, _||_, Bool·beq}
+use mathlib.Core.Bool.{Bool, true, false, not, Bool·beq}
 use mathlib.Core.List.{List}
 use lib.Dec.{eqb}
 use lib.ListN.{length, getD}
 use lib.Bits.{bitAnd, bitOr, and-mask, and-le-l, and-le-r, or-add-and}
 use borrow.Author.Tests.{lt-ltb, ne-eqb}
-use Rattle.base.proofs.Cases.{byLt}
+use Rattle.base.proofs.Cases.{byLt, byEq}
 use Rattle.refusal.specs.Answer.{given, refused}
 use Rattle.number.specs.Stored.{Bytes}
 use Rattle.ber.specs.Written.{tagBytes, lengthBytes}
@@ -18,7 +18,7 @@ use Rattle.tagset.specs.Sets.{holds, knowing}
 use Rattle.tagset.proofs.Laws.{Words, holds-low, holds-high}
 use Rattle.packet.specs.Said.{headerAt}
 use Rattle.packet.specs.code.Headers.{shortForms}
-use Rattle.packet.specs.code.Passing.{glanceOf, Glances}
+use Rattle.packet.specs.code.Passing.{glanceOf, fit, Glances}
 use Rattle.packet.specs.declared.Header.{Header}
 use Rattle.packet.specs.declared.Glance.{Glance}
 use Rattle.packet.proofs.Steps.{short-past-the-end, short-item}
@@ -38,12 +38,20 @@ knows-tag l t h w =
     let b : t % 64 ≡ t - 64 = omega arith in
     rw (a, b, and-mask (getD l 1 0 / 2 ^ (t - 64)) 1) (sym (holds-high (knowing (getD l 0 0) (getD l 1 0)) w t k)))
 
--- the two ways of saying that two tests say the same
-pub same-both : (a b : Bool) → Bool·beq a b ≡ (not a && not b || a && b)
-same-both true true = refl
-same-both true false = refl
-same-both false true = refl
-same-both false false = refl
+-- the test of a length, as the code makes it
+beq-false : (b : Bool) → not (Bool·beq b false) ≡ b
+beq-false true = refl
+beq-false false = refl
+
+beq-true : (b : Bool) → not (Bool·beq b true) ≡ not b
+beq-true true = refl
+beq-true false = refl
+
+pub fit-test : (size width : ℕ) → not (Bool·beq (eqb size width) (eqb width 0)) ≡ fit width size
+fit-test size width =
+    byEq width 0
+    (λ e. rw e (beq-true (eqb size 0)))
+    (λ e. rw (ne-eqb width 0 e) (beq-false (eqb size width)))
 
 -- two bytes of which the sum of bits is below 128
 module _ (a b : ℕ) (small : bitOr a b < 128) where
@@ -71,7 +79,7 @@ module _ (p : List ℕ) (at : ℕ) where
       }
 
   -- a tag and a length of one byte each
-  module _ (inside : at ≤ length p - 2) (two : 2 ≤ length p) (some : getD p at 0 ≡ 0 → ⊥) (small : bitOr (getD p at 0) (getD p (at + 1) 0) < 128) where
+  module _ (inside : at + 2 ≤ length p) (some : getD p at 0 ≡ 0 → ⊥) (small : bitOr (getD p at 0) (getD p (at + 1) 0) < 128) where
     short : shortForms (getD p at 0) (getD p (at + 1) 0) ≡ true
     unfolding shortForms
     short =
@@ -96,6 +104,6 @@ module _ (p : List ℕ) (at : ℕ) where
     glance-short by =
         let n : ℕ = getD p (at + 1) 0 in
         byLt (length p) (at + 1 + 1 + n)
-        (λ h. glance-none 8 at (getD p at 0) (short-past-the-end p at _ _ refl refl inside two short h) _ h)
+        (λ h. glance-none 8 at (getD p at 0) (short-past-the-end p at _ _ refl refl (omega arith) (omega arith) short h) _ h)
         (λ h. rw (one-byte-glance (getD p at 0) n (omega arith) (or-left (getD p at 0) n small) (or-right (getD p at 0) n small))
-        (glance-item by _ (short-item p at _ _ refl refl inside two short h)))
+        (glance-item by _ (short-item p at _ _ refl refl (omega arith) (omega arith) short h)))

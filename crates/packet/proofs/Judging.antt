@@ -1,20 +1,17 @@
 -- The items judged one after another, the tags seen kept as a set.
 -- Assumes nothing.
-use Prim.Native.Nat.{ℕ, _%_, _+_, _<_, _≤_}
+use Prim.Native.Nat.{ℕ, _+_, _<_, _≤_}
 use native.Mathlib.Omega.{arith}
-use native.Mathlib.Nat.{div-eq-of-lt}
-use lib.Pow.{pow-pos}
 use mathlib.Core.Path.{_≡_, refl, ap, sym, _∙_}
-use mathlib.Core.Bool.{false, cond}
+use mathlib.Core.Bool.{cond}
 use mathlib.Core.List.{List, [], _∷_}
-use lib.Dec.{eqb}
 use lib.ListN.{length}
 use borrow.Author.Tests.{eq-eqb, ne-eqb}
 use Rattle.base.proofs.Cases.{byBool, byLt, byEq}
 use Rattle.refusal.specs.Answer.{Answer, given, refused}
-use Rattle.tagset.specs.Sets.{holds, withTag}
+use Rattle.tagset.specs.Sets.{noTags, holds, withTag}
 use Rattle.tagset.specs.declared.TagSet.{TagSet}
-use Rattle.tagset.proofs.Laws.{Words, holds-none, with-words, with-it, with-other}
+use Rattle.tagset.proofs.Laws.{Words, no-words, no-tags, holds-none, with-words, with-it, with-other}
 use Rattle.packet.specs.Pieces.{Item, Piece, pieces}
 use Rattle.packet.specs.Judge.{has, among, clean, wrong, faultOf, Judged, fine, faulty, noVersion, later, onFault, judgeFrom, judge}
 use Rattle.packet.specs.Said.{headerAt}
@@ -30,12 +27,8 @@ pub record SeenBy (s : TagSet) (ts : List ℕ) : Type 0 where
   pub words : Words s
   pub each : (t : ℕ) → t < 128 → holds s t ≡ has t ts
 
-no-bits : (t : ℕ) → holds (record { low = 0; high = 0 }) t ≡ false
-unfolding holds
-no-bits t = ap (λ x. eqb (x % 2) 1) (div-eq-of-lt (pow-pos t))
-
-pub none-seen : SeenBy (record { low = 0; high = 0 }) []
-none-seen = record { words = record { low64 = omega arith; high64 = omega arith }; each = λ t h. no-bits t }
+pub none-seen : SeenBy noTags []
+none-seen = record { words = no-words; each = λ t h. no-tags t }
 
 pub one-seen : (s : TagSet) (ts : List ℕ) (u : ℕ) → SeenBy s ts → SeenBy (withTag s u) (u ∷ ts)
 one-seen s ts u b =
@@ -70,7 +63,7 @@ pub record Judges (K : TagSet) (p : List ℕ) (from here : ℕ) (seen : TagSet) 
   pub met : SeenBy seen tags
   pub same : verdictOf (ahead .items) (judgeFrom (holds K) tags (pieces (ahead .items))) ≡ judgedFrom K p from
 
-pub judges-begin : (K : TagSet) (p : List ℕ) (from : ℕ) → WalksFrom p from → Judges K p from from (record { low = 0; high = 0 })
+pub judges-begin : (K : TagSet) (p : List ℕ) (from : ℕ) → WalksFrom p from → Judges K p from from noTags
 unfolding judge
 judges-begin K p from w =
     record {

@@ -21,7 +21,7 @@ use Rattle.tagset.specs.declared.TagSet.{TagSet}
 use Rattle.packet.specs.Pieces.{Item, Step, noTag, noLength, one, afterLength, afterTag, readItem, before, onward, walk}
 use Rattle.packet.specs.code.Headers.{headerOf, itemBy}
 use Rattle.packet.specs.Said.{headerBy, headerAt}
-use Rattle.packet.specs.code.Passing.{Kept, shortest, withHeader, keptFrom, kept}
+use Rattle.packet.specs.code.Passing.{Kept, shortest, NoItem, withHeader, keptFrom, kept}
 use Rattle.packet.specs.declared.Header.{Header}
 
 module _ (p : List ℕ) (here : ℕ) where
@@ -67,6 +67,7 @@ module _ (p : List ℕ) (here : ℕ) where
   -- a header lies within the packet, and the walk goes on
   pub record Lies (i : Header) : Type 0 where
     pub on : here < i .place + i .size
+    pub two : here + 2 ≤ i .place
     pub inside : i .place + i .size ≤ length p
     pub formed : i .start + shortest i ≤ i .place
 
@@ -74,25 +75,34 @@ module _ (p : List ℕ) (here : ℕ) where
   unfolding headerAt readItem
   header-lies by i e = by-tag (readTag (drop here p)) refl e
     where
-      past : (t s n k : ℕ) → 0 < s → length (tagBytes t) + length (lengthBytes n) ≤ s + k
+      past : (t s n k : ℕ) → 0 < s → 0 < k → length (tagBytes t) + length (lengthBytes n) ≤ s + k
           → headerBy here (afterLength (length (drop here p)) t s (got n k)) ≡ given i → Lies i
-      past t s n k some short e =
+      past t s n k some more short e =
           byBool (leb (s + k + n) (length (drop here p)))
           (λ b. let f : given (record { tag = t; start = here; place = here + (s + k); size = n }) ≡ given i = rw b at e in
           let g : record { tag = t; start = here; place = here + (s + k); size = n } ≡ i = cc in
           let m : s + k + n ≤ length p - here = rw length-drop at (leb-true (s + k + n) (length (drop here p)) b) in
-          rw (← g) (record { on = omega arith; inside = omega arith; formed = omega arith }))
+          rw (← g) (record { on = omega arith; two = omega arith; inside = omega arith; formed = omega arith }))
           (λ b. let f : refused 8 here t ≡ given i = rw b at e in let z : _≡_ {A = ℕ} 0 1 = cc in absurd (omega arith))
 
       by-length : (t s : ℕ) → TagRead (drop here p) t s → (r : Read) → readLength (drop s (drop here p)) ≡ r
           → headerBy here (afterLength (length (drop here p)) t s r) ≡ given i → Lies i
       by-length t s tag broken q e = let z : _≡_ {A = ℕ} 0 1 = cc in absurd (omega arith)
       by-length t s tag (got n k) q e =
-          past t s n k (tag .takes) (omega (arith, tag .size, length-read _ n k (bytes-drop s (bytes-drop here by)) q .shortest)) e
+          let l = length-read _ n k (bytes-drop s (bytes-drop here by)) q in
+          past t s n k (tag .takes) (l .some) (omega (arith, tag .size, l .shortest)) e
 
       by-tag : (r : Read) → readTag (drop here p) ≡ r → headerBy here (afterTag (drop here p) r) ≡ given i → Lies i
       by-tag broken q e = let z : _≡_ {A = ℕ} 0 1 = cc in absurd (omega arith)
       by-tag (got t s) q e = by-length t s (tag-read (drop here p) t s (bytes-drop here by) q) (readLength (drop s (drop here p))) refl e
+
+-- no item begins with the last byte, for each has two
+pub last-none : (p : List ℕ) (here : ℕ) → Bytes p → length p ≤ here + 1 → NoItem p here
+last-none p here by h = go (headerAt p here) refl
+  where
+    go : (a : Answer Header) → headerAt p here ≡ a → NoItem p here
+    go (given i) e = let l = header-lies p here by i e in absurd (omega (arith, l .two, l .inside))
+    go (refused n a t) e = record { number = n; place = a; tag = t; refuses = e }
 
 -- the header of the item that a header stands for
 pub header-back : (p : List ℕ) (i : Header) → i .place + i .size ≤ length p → headerOf (itemBy p i) ≡ i

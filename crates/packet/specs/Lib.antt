@@ -2,6 +2,7 @@ pub mod Pieces
 pub mod Ends
 pub mod Structure
 pub mod Judge
+pub mod Seen
 pub mod Verdict
 pub mod Rows
 pub mod Encode

@@ -1,5 +1,4 @@
--- Document 01, Rows: "A row is four 64-bit words: tag; kind (1 reading, 2 mark, 3 text, 4 carried); the stored code as an
--- unsigned number (0 for text and carried); place of the value × 65,536 + its length."
+-- Document 01, Rows: the table that a packet fills, and what its rows stand for.
 use Prim.Native.Nat.{ℕ, zero, suc, _+_, _-_, _*_}
 use mathlib.Core.Path.{_≡_}
 use mathlib.Core.Bool.{false, cond}
@@ -13,26 +12,17 @@ use Rattle.tagset.specs.declared.TagSet.{TagSet}
 use Rattle.knowing.specs.Good.{good}
 use Rattle.catalogue.specs.declared.Shape.{Shape}
 use Rattle.catalogue.specs.declared.Shape.the-variants.{Text, Number, Absent}
-pub use Rattle.rows.specs.Meaning.{meaningOf, kindOf, codeOf, isNumber}
+pub use Rattle.rows.specs.Meaning.{isNumber}
 pub use Rattle.rows.specs.declared.RowWords.{RowWords}
 unfoldable pub use Rattle.rows.specs.Meaning.{shapeFor}
 use Rattle.rows.specs.Taken.{partPlace, partLength, rowSays, rowAt}
+use Rattle.rows.specs.Present.{presentIn}
 pub use Rattle.rows.specs.declared.Filled.{Filled}
 use Rattle.packet.specs.Pieces.{Piece, Item}
 use Rattle.packet.specs.Judge.{Knowing}
+pub use Rattle.packet.specs.Seen.{rowBy}
+unfoldable pub use Rattle.packet.specs.Seen.{rowOf, rowsOf}
 use Rattle.packet.specs.Verdict.{verdict}
-
-abbrev pub rowBy : Shape → Item → RowWords
-rowBy shape i =
-    let m = meaningOf shape (i .piece .value) in
-    record { tag = i .piece .tag; kind = kindOf m; code = codeOf m; part = i .place * 65536 + length (i .piece .value) }
-
-unfoldable pub rowOf : Knowing → Item → RowWords
-rowOf K i = rowBy (shapeFor K (i .piece .tag)) i
-
-unfoldable pub rowsOf : Knowing → List Item → List RowWords
-rowsOf K [] = []
-rowsOf K (i ∷ is) = rowOf K i ∷ rowsOf K is
 
 unfoldable pub words : List RowWords → List ℕ
 words [] = []
@@ -47,12 +37,12 @@ unfoldable pub lentVerdict : TagSet → List ℕ → List ℕ → Answer (List I
 lentVerdict K p t =
     cond (good K) (cond (ltb (length t) 512) (refused 2 0 0) (verdict (holds K) p)) (refused 1 0 0)
 
--- the table of an accepted packet: how many rows it has
-abbrev pub filledBy : List Item → Filled
-filledBy is = record { count = length is }
+-- the table of an accepted packet: how many rows it has, and W-201's "two words beside the rows"
+abbrev pub filledBy : Knowing → List Item → Filled
+filledBy K is = record { count = length is; present = presentIn (rowsOf K is) }
 
 unfoldable pub readAnswer : TagSet → List ℕ → List ℕ → Answer Filled
-readAnswer K p t = map filledBy (lentVerdict K p t)
+readAnswer K p t = map (filledBy (holds K)) (lentVerdict K p t)
 
 -- "An answer of refusal … changes no lent memory."
 abbrev pub tableBy : Knowing → List ℕ → Answer (List Item) → List ℕ

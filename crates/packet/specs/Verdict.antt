@@ -9,12 +9,14 @@ use Rattle.refusal.specs.Answer.{Answer, given, refused, map, then, orElse}
 use Rattle.tagset.specs.Sets.{holds}
 use Rattle.tagset.specs.declared.TagSet.{TagSet}
 use Rattle.knowing.specs.Good.{good}
+use Rattle.rows.specs.Present.{presentIn}
 use Rattle.packet.specs.declared.Accepted.{Accepted}
 use Rattle.packet.specs.declared.Located.{Located}
 use Rattle.packet.specs.Said.{checkSaid}
 use Rattle.packet.specs.Pieces.{Item, pieces}
 use Rattle.packet.specs.Structure.{structure}
 use Rattle.packet.specs.Encode.{longerOf}
+use Rattle.packet.specs.Seen.{rowsOf}
 use Rattle.packet.specs.Judge.{Knowing, Judged, fine, faulty, noVersion, judge}
 
 -- where the item at an index starts
@@ -38,12 +40,13 @@ verdict K p = then (structure p) (judged K)
 unfoldable pub received : TagSet → List ℕ → Answer (List Item)
 received K p = cond (good K) (verdict (holds K) p) (refused 1 0 0)
 
--- where the items begin, how many there are, and by how many bytes their lengths are longer than in their shortest forms
-abbrev pub bodyOf : List Item → Accepted
-bodyOf is = record { from = startOf 0 is; count = length is; longer = longerOf is }
+-- where the items begin, how many there are, by how many bytes their lengths are longer than in their shortest forms, and the two words
+-- that W-201 keeps beside the rows that the receiver would make of them
+abbrev pub bodyOf : Knowing → List Item → Accepted
+bodyOf K is = record { from = startOf 0 is; count = length is; longer = longerOf is; present = presentIn (rowsOf K is) }
 
 unfoldable pub checked : TagSet → List ℕ → Answer Accepted
-checked K p = map bodyOf (received K p)
+checked K p = map (bodyOf (holds K)) (received K p)
 
 -- for each tag below 128 the place past its last item, 0 where there is none; and at 0 that of the tags from 128 on
 abbrev pub oneByte : ℕ → ℕ

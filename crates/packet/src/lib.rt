@@ -5,7 +5,7 @@ ghost use Prim.Native.Nat.{_+_, _-_, _<_, _≤_};
 ghost use lib.ListN.{length, take, drop, getD};
 ghost use Rattle.refusal.specs.Numbers.{number};
 ghost use Rattle.refusal.specs.Answer.{refused as refusedBy, refusal as refusalOf};
-ghost use Rattle.tagset.specs.Sets.{holds, knowing};
+ghost use Rattle.tagset.specs.Sets.{holds};
 ghost use Rattle.catalogue.specs.code.Column.{shapeColumn};
 ghost use Rattle.packet.specs.Judge.{faultBy, faultOf};
 ghost use Rattle.packet.specs.Said.{stepSaid, headerAt, faultSaid, rightSaid, checkSaid};
@@ -14,7 +14,7 @@ ghost use Rattle.packet.specs.Ends.{rightEnds};
 ghost use Rattle.packet.specs.Structure.{key, same, frame};
 ghost use Rattle.packet.specs.Verdict.{oneByte, checked, Locates};
 ghost use Rattle.packet.specs.code.Headers.{itemBy, shortForms};
-ghost use Rattle.packet.specs.code.Passing.{longerIn, shortest, Glances, TwoWords, looksWrong, Passes, Stops};
+ghost use Rattle.packet.specs.code.Passing.{longerIn, shortest, Glances, TwoWords, setOf, fitAt, Notes, Passes, Stops};
 ghost use Rattle.packet.specs.code.Concluded.{frameSaid, WalksFrom, judgedFrom, headerIn, endsBy, summedAt, closedBy, codedIn, cleanIn};
 ghost use Rattle.packet.specs.code.Concluded.{begunBy, PastIn, Whole, rightFrom, Begins, ChecksFrom};
 use catalogue::Shape;
@@ -279,12 +279,9 @@ fn any_glance_at(packet: &[u8], at: usize) -> Glance
 
 // Most items have a tag and a length of one byte each.
 fn glance_at(packet: &[u8], at: usize) -> Glance
-    requires { ⌜ 2 ≤ length (now packet) ⌝ }
+    requires { ⌜ at + 2 ≤ length (now packet) ⌝ }
     ensures { λ r. ⌜ Glances (now (packet .entry)) at r ⌝ }
 {
-    if packet.len() - 2 < at {
-        return any_glance_at(packet, at);
-    }
     let after = at + 1;
     let tag = packet[at] as usize;
     let size = packet[after] as usize;
@@ -302,51 +299,63 @@ fn glance_at(packet: &[u8], at: usize) -> Glance
     }
 }
 
-// Whether a set holds a tag, its two words side by side: without a branch.
-fn knows(words: &[u64; 2], tag: usize) -> bool
-    requires { ⌜ TwoWords (now words) × (tag < 128) ⌝ }
-    ensures { λ r. ⌜ r ≡ holds (knowing (getD (now (words .entry)) 0 0) (getD (now (words .entry)) 1 0)) tag ⌝ }
-{
-    (words[tag / 64] >> (tag % 64)) & 1 == 1
-}
-
-// Whether a known item looks wrong, by its length or because its tag came before: without a branch. A text has the width 0.
-fn looks_wrong(column: &[u8; 128], words: &[u64; 2], past: &[u16; 128], item: Glance) -> bool
-    requires { ⌜ (now column ≡ shapeColumn) × TwoWords (now words) × (item .tag < 128) ⌝ }
-    ensures { λ r. ⌜ r ≡ looksWrong (knowing (getD (now (words .entry)) 0 0) (getD (now (words .entry)) 1 0)) (now (past .entry)) item ⌝ }
+// Whether an item has a length that its tag allows: without a branch. A text has the width 0.
+fn is_fit(column: &[u8; 128], item: Glance) -> bool
+    requires { ⌜ (now column ≡ shapeColumn) × (item .tag < 128) ⌝ }
+    ensures { λ r. ⌜ r ≡ fitAt item ⌝ }
 {
     let tag = item.tag;
     let width = (column[tag] & 15) as usize;
-    let unfit = (item.size == width) == (width == 0);
-    let twice = past[tag] != 0;
-    knows(words, tag) & (unfit | twice)
+    (item.size == width) != (width == 0)
+}
+
+// Notes a known item that is fit in the two words of tags, and says 1 where its tag is known, else 0: without a branch.
+fn note(words: &[u64; 2], present: &mut [u64; 2], tag: usize, fit: bool) -> usize
+    requires { ⌜ TwoWords (now words) × TwoWords (now present) × (tag < 128) ⌝ }
+    ensures { λ r. ⌜ Notes (now (words .entry)) (now (present .entry)) tag fit r (now (present .exit)) ⌝ }
+{
+    let word = tag / 64;
+    let shift = tag % 64;
+    let known = (words[word] >> shift) & 1;
+    let noted = known & fit as u64;
+    present[word] = present[word] | (noted << shift);
+    known as usize
 }
 
 // What a walk keeps of the items that it has passed: where it stands, how many they are, where the last one starts, by how many bytes
-// their lengths are longer than in their shortest forms, and whether one looked wrong.
+// their lengths are longer than in their shortest forms, and how many of them are known.
 struct Passed {
     here: usize,
     count: usize,
     last: usize,
     longer: usize,
-    wrong: bool,
+    known: usize,
 }
 
-// All items from a place to the packet's end, at most 128 of them, without a branch for what an item is; and for each tag the place past its last item.
-fn pass(packet: &[u8], from: usize, known: TagSet, past: &mut [u16; 128]) -> Passed
-    requires { ⌜ (2 ≤ length (now packet)) × (length (now packet) ≤ 8192) × (from ≤ length (now packet)) ⌝ }
-    ensures { λ r. ⌜ Passes known (now (packet .entry)) from (now (past .entry)) r (now (past .exit)) ⌝ }
+// All items from a place to the packet's end, at most 128 of them, without a branch for what an item is; for each tag the place past its
+// last item, and in two words the tags of the known ones that are fit. An item has two bytes, so none begins with the last one.
+fn pass(
+    packet: &[u8],
+    from: usize,
+    known: TagSet,
+    past: &mut [u16; 128],
+    present: &mut [u64; 2],
+) -> Passed
+    requires { ⌜ (2 ≤ length (now packet)) × (length (now packet) ≤ 8192) × (from ≤ length (now packet)) × TwoWords (now present) ⌝ }
+    ensures { λ r. ⌜ Passes known (now (packet .entry)) from (now (past .entry)) (setOf (now (present .entry))) r (now (past .exit))
+        (setOf (now (present .exit))) ⌝ }
 {
     let column = catalogue::shapes();
     let words = [known.low, known.high];
+    let last = packet.len() - 1;
     let mut passed = Passed {
         here: from,
         count: 0,
         last: from,
         longer: 0,
-        wrong: false,
+        known: 0,
     };
-    while passed.here < packet.len() {
+    while passed.here < last {
         let here = passed.here;
         let count = passed.count;
         if count == 128 {
@@ -358,14 +367,15 @@ fn pass(packet: &[u8], from: usize, known: TagSet, past: &mut [u16; 128]) -> Pas
         if packet.len() < end {
             return passed;
         }
-        let wrong = passed.wrong | looks_wrong(&column, &words, past, item);
+        let fit = is_fit(&column, item);
+        let one = note(&words, present, tag, fit);
         past[tag] = end as u16;
         passed = Passed {
             here: end,
             count: count + 1,
             last: here,
             longer: passed.longer + item.longer,
-            wrong,
+            known: passed.known + one,
         };
     }
     passed
@@ -420,11 +430,13 @@ fn framed(packet: &[u8]) -> Frame
     unframed(Reason::KeyDiffers, 0)
 }
 
-// An accepted packet: where its items begin, how many there are, and by how many bytes their forms are longer than the shortest.
+// An accepted packet: where its items begin, how many there are, by how many bytes their forms are longer than the shortest, and as two
+// words the tags of the known ones.
 pub struct Accepted {
     pub from: usize,
     pub count: usize,
     pub longer: usize,
+    pub present: TagSet,
 }
 
 pub enum Checked {
@@ -548,12 +560,12 @@ fn is_coded(packet: &[u8], known: TagSet, past: &[u16; 128], tag: usize) -> bool
     true
 }
 
-// Whether nothing was gathered on the way: no known item looked wrong, 34 and 63 have their codes, and item 65 is there.
-fn is_clean(packet: &[u8], known: TagSet, past: &[u16; 128], wrong: bool) -> bool
+// Whether nothing is wrong with the known items: each was noted by its own tag, 34 and 63 have their codes, and item 65 is there.
+fn is_clean(packet: &[u8], known: TagSet, past: &[u16; 128], present: TagSet, count: usize) -> bool
     requires { ⌜ PastIn (length (now packet)) (now past) ⌝ }
-    ensures { λ r. ⌜ r ≡ cleanIn known (now (packet .entry)) (now (past .entry)) wrong ⌝ }
+    ensures { λ r. ⌜ r ≡ cleanIn known (now (packet .entry)) (now (past .entry)) present count ⌝ }
 {
-    if wrong {
+    if tagset::size_of(present) != count {
         return false;
     }
     if past[65] == 0 {
@@ -565,16 +577,22 @@ fn is_clean(packet: &[u8], known: TagSet, past: &[u16; 128], wrong: bool) -> boo
     false
 }
 
-// First, last and sum of the items passed; then the exact walk names the fault, if anything was gathered.
-fn concluded(packet: &[u8], from: usize, known: TagSet, past: &[u16; 128], passed: Passed) -> Right
-    requires { ⌜ Whole known (now packet) from passed (now past) ⌝ }
+// First, last and sum of the items passed; then the exact walk names the fault, if something is wrong.
+fn concluded(
+    packet: &[u8],
+    from: usize,
+    known: TagSet,
+    past: &[u16; 128],
+    present: TagSet,
+    passed: Passed,
+) -> Right
+    requires { ⌜ Whole known (now packet) from passed (now past) present ⌝ }
     ensures { λ r. ⌜ rightSaid r ≡ rightFrom known (now (packet .entry)) from ⌝ }
 {
-    let wrong = passed.wrong;
     match closed(packet, from, header_at(packet, passed.last)) {
         Right::Refused(refusal) => Right::Refused(refusal),
         Right::Yes => {
-            if is_clean(packet, known, past, wrong) {
+            if is_clean(packet, known, past, present, passed.known) {
                 return Right::Yes;
             }
             judged(packet, from, known)
@@ -606,19 +624,25 @@ fn check_from(packet: &[u8], from: usize, known: TagSet, past: &mut [u16; 128]) 
     requires { ⌜ Begins known (now packet) from (now past) ⌝ }
     ensures { λ r. ⌜ ChecksFrom known (now (packet .entry)) from r (now (past .exit)) ⌝ }
 {
-    let passed = pass(packet, from, known, past);
+    let mut words = [0u64; 2];
+    let passed = pass(packet, from, known, past, &mut words);
+    let present = TagSet {
+        low: words[0],
+        high: words[1],
+    };
     let here = passed.here;
     let count = passed.count;
     let longer = passed.longer;
     if here < packet.len() {
         return Checked::Refused(stopped(packet, here, count));
     }
-    match concluded(packet, from, known, past, passed) {
+    match concluded(packet, from, known, past, present, passed) {
         Right::Refused(refusal) => Checked::Refused(refusal),
         Right::Yes => Checked::Accepted(Accepted {
             from,
             count,
             longer,
+            present,
         }),
     }
 }

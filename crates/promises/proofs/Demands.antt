@@ -1,5 +1,5 @@
 -- The three demands, in their order and words, over every outcome that the contracts of the public functions allow: `Reads` is read's,
--- `Writes` write's and also that of the records' writer, `Forwards` forward's, `Lists` list's, and `checkSaid r ≡ checked K p` is
+-- `Writes` write's and also that of the records' writer, `WritesWith` write_with's, `Forwards` forward's, `Lists` list's, and `checkSaid r ≡ checked K p` is
 -- check's. What a lent slice of bytes holds is `Bytes`.
 -- Assumes nothing.
 use Prim.Native.Nat.{ℕ, _<_, _≤_}
@@ -13,9 +13,9 @@ use Rattle.refusal.specs.Numbers.{number}
 use Rattle.refusal.specs.declared.Refusal.{Refusal}
 use Rattle.refusal.proofs.Answers.{map-given}
 use Rattle.number.specs.Stored.{Bytes}
-use Rattle.tagset.specs.Sets.{holds}
+use Rattle.tagset.specs.Sets.{holds, meet}
 use Rattle.tagset.specs.declared.TagSet.{TagSet}
-use Rattle.tagset.proofs.Laws.{Included}
+use Rattle.tagset.proofs.Laws.{Words, Included}
 use Rattle.catalogue.specs.Items.{itemOf}
 use Rattle.catalogue.specs.declared.Item as catalogue
 use Rattle.catalogue.specs.declared.Found.the-variants.{Known}
@@ -30,6 +30,7 @@ use Rattle.scale.proofs.Values.{NearestValue, house-nearest}
 use Rattle.scale.proofs.Codes.{NearestCode, code-nearest}
 use Rattle.rows.specs.declared.RowWords.{RowWords}
 use Rattle.rows.specs.Taken.{rowAt}
+use Rattle.rows.specs.Present.{presentIn}
 use Rattle.packet.specs.Verdict.{bodyOf, received, checked}
 use Rattle.packet.specs.Said.{checkSaid}
 use Rattle.packet.specs.Rows.{Filled, filledBy, tableOf, rowsIn, readAnswer, SameTable}
@@ -42,7 +43,8 @@ use Rattle.laws.proofs.Tables.{has-read, allowed-read, read-larger, read-rows, 
 use Rattle.reader.specs.Reads.{Reads, readSaid}
 use Rattle.reader.specs.declared.Reading.{Reading}
 use Rattle.reader.specs.declared.Reading.the-variants as read
-use Rattle.writer.specs.Writes.{Writes}
+use Rattle.outgoing.specs.declared.Handed.{Handed}
+use Rattle.writer.specs.Writes.{WritesWith, Writes}
 use Rattle.writer.specs.declared.Written.{Written}
 use Rattle.writer.specs.declared.Writing.the-variants as write
 use Rattle.relay.specs.Forwards.{Forwards, forwardSaid}
@@ -52,8 +54,8 @@ use Rattle.ground.specs.Ground.{fromRows}
 use Rattle.listing.specs.Lists.{Lists}
 use Rattle.listing.specs.declared.Listing.the-variants as listing
 use Rattle.promises.specs.Words.{AllowedTo, Starts, CheckedAs, ReadAs}
-use Rattle.promises.proofs.Unchanged.{table-stays, output-stays, forward-stays, text-stays}
-use Rattle.promises.proofs.NotTwo.{never-two, checked-not, rows-not, read-not, write-not, forward-not, house-not, code-not, text-not}
+use Rattle.promises.proofs.Unchanged.{table-stays, handed-stays, output-stays, forward-stays, text-stays}
+use Rattle.promises.proofs.NotTwo.{never-two, checked-not, rows-not, read-not, handed-not, write-not, forward-not, house-not, code-not, text-not}
 use Rattle.promises.proofs.Naming.{refusal-names, verdict-refused}
 use Rattle.promises.proofs.Writing.{written-read}
 use Rattle.promises.proofs.Sending.{whole, own-read, forward-sends, forward-reading}
@@ -71,6 +73,9 @@ module _ {K : TagSet} {x : Refusal} where
   pub write-refusal-changes-nothing : {count : ℕ} {words b o o′ : List ℕ} → Writes K count words b o (write.Refused x) o′ → o′ ≡ o
   write-refusal-changes-nothing {count} {words} {b} {o} c = c .output ∙ output-stays _ _ _ K count words b o (sym (c .answer))
 
+  pub write-with-refusal-changes-nothing : {h : Handed} {count : ℕ} {words b o o′ : List ℕ} → WritesWith K h count words b o (write.Refused x) o′ → o′ ≡ o
+  write-with-refusal-changes-nothing {h} {count} {words} {b} {o} c = c .output ∙ handed-stays _ _ _ K h count words b o (sym (c .answer))
+
   pub forward-refusal-changes-nothing : {p o o′ : List ℕ} → Forwards K p o (forward.Refused x) o′ → o′ ≡ o
   forward-refusal-changes-nothing {p} {o} c = c .output ∙ forward-stays _ _ _ K p o (sym (c .answer))
 
@@ -85,6 +90,10 @@ module _ {K : TagSet} {x : Refusal} where
 
   pub write-never-2 : {count : ℕ} {words b o o′ : List ℕ} → Writes K count words b o (write.Refused x) o′ → number (x .reason) ≡ 2 → ⊥
   write-never-2 {count} {words} {b} {o} c = never-two (write-not K count words b o) (c .answer)
+
+  pub write-with-never-2 : {h : Handed} {count : ℕ} {words b o o′ : List ℕ} → WritesWith K h count words b o (write.Refused x) o′
+      → number (x .reason) ≡ 2 → ⊥
+  write-with-never-2 {h} {count} {words} {b} {o} c = never-two (handed-not K h count words b o) (c .answer)
 
   pub forward-never-2 : {p o o′ : List ℕ} → Forwards K p o (forward.Refused x) o′ → number (x .reason) ≡ 2 → ⊥
   forward-never-2 {p} {o} c = never-two (forward-not K p o) (c .answer)
@@ -113,13 +122,13 @@ module _ {K : TagSet} {p : List ℕ} where
   pub check-accepts-only-allowed : (b : Accepted) → Bytes p → checkSaid (check.Accepted b) ≡ checked K p → CheckedAs K p b
   unfolding checked
   check-accepts-only-allowed b by e =
-      let f = map-given bodyOf (received K p) (sym e) in
+      let f = map-given (bodyOf (holds K)) (received K p) (sym e) in
       let a = received-allowed K p (f .0) by (f .1) in
       record { packet = record { knows = a .0; items = f .0; allowed = a .1 }; body = sym (f .2) }
 
-  pub check-accepts-all-allowed : (r : Checked) → checkSaid r ≡ checked K p → (a : AllowedTo K p) → checkSaid r ≡ given (bodyOf (a .items))
+  pub check-accepts-all-allowed : (r : Checked) → checkSaid r ≡ checked K p → (a : AllowedTo K p) → checkSaid r ≡ given (bodyOf (holds K) (a .items))
   unfolding checked
-  check-accepts-all-allowed r e a = e ∙ ap (map bodyOf) (allowed-received K p (a .items) (a .knows) (a .allowed))
+  check-accepts-all-allowed r e a = e ∙ ap (map (bodyOf (holds K))) (allowed-received K p (a .items) (a .knows) (a .allowed))
 
   module _ {t t′ : List ℕ} where
     pub read-accepts-only-allowed : {done : Filled} → Bytes p → Reads K p t (read.Rows done) t′ → ReadAs K p t done t′
@@ -128,12 +137,12 @@ module _ {K : TagSet} {p : List ℕ} where
         record {
           packet = record { knows = r .right; items = r .items; allowed = accepted-allowed (holds K) p (r .items) by (r .accepted) };
           long = r .long;
-          count = sym (r .filled);
+          filled = sym (r .filled);
           table = c .table ∙ r .table;
         }
 
     pub read-accepts-all-allowed : {r : Reading} → Reads K p t r t′ → 512 ≤ length t → (a : AllowedTo K p)
-        → (readSaid r ≡ given (filledBy (a .items))) × (t′ ≡ tableOf (holds K) (a .items) t)
+        → (readSaid r ≡ given (filledBy (holds K) (a .items))) × (t′ ≡ tableOf (holds K) (a .items) t)
     read-accepts-all-allowed c long a =
         let f = allowed-read K p t (a .knows) long (a .items) (a .allowed) in
         (c .answer ∙ f .0, c .table ∙ f .1)
@@ -149,7 +158,8 @@ module _ (tag : ℕ) (i : catalogue.Item) (found : itemOf tag ≡ Known i) where
 -- "The packet written from a table reads back as that table, places and checksum aside."
 pub written-reads-back : {K : TagSet} {count : ℕ} {words b o o′ : List ℕ} {w : Written} → Writes K count words b o (write.Packet w) o′
     → {t t′ : List ℕ} {r : Reading} → 512 ≤ length t → Reads K (take (w .size) o′) t r t′
-    → (readSaid r ≡ given (record { count = count })) × SameTable b (take (w .size) o′) (rowsIn 0 count words) (rowsIn 0 count t′)
+    → (readSaid r ≡ given (record { count = count; present = presentIn (rowsIn 0 count words) }))
+    × SameTable b (take (w .size) o′) (rowsIn 0 count words) (rowsIn 0 count t′)
 written-reads-back {K} {count} {words} {b} {o} {o′} {w} c {t} long d =
     let s = written-read K count words b o w (sym (c .answer)) t long in
     let q = rw (← (c .output)) at s in
@@ -161,12 +171,14 @@ module _ {K K′ : TagSet} (g : good K ≡ true) (g′ : good K′ ≡ true) (be
   within : Included K K′
   within = record { each = below }
 
-  -- "what the fuller accepts, the poorer accepts, with the same answer for every item it knows."
-  pub fuller-accepts-poorer-accepts : (done : Filled) → readSaid r′ ≡ given done
-      → (readSaid r ≡ given done) × ((k : ℕ) → k < done .count → SmallerRow (holds K) (rowAt s k) (rowAt s′ k))
-  fuller-accepts-poorer-accepts done e =
+  -- "what the fuller accepts, the poorer accepts, with the same answer for every item it knows.": row by row, and in W-201's words,
+  -- which are the fuller's within the poorer's knowing set
+  pub fuller-accepts-poorer-accepts : Words K → Words K′ → (done : Filled) → readSaid r′ ≡ given done
+      → (readSaid r ≡ given (record { count = done .count; present = meet (done .present) K }))
+      × ((k : ℕ) → k < done .count → SmallerRow (holds K) (rowAt s k) (rowAt s′ k))
+  fuller-accepts-poorer-accepts w w′ done e =
       let f : readAnswer K′ p t′ ≡ given done = sym (c′ .answer) ∙ e in (
-        c .answer ∙ read-larger K K′ g g′ within p t t′ long long′ done f,
+        c .answer ∙ read-larger K K′ g g′ within p t t′ long long′ w w′ done f,
         λ k h. rw (c .table, c′ .table) (read-rows K K′ g g′ within p t t′ long long′ done k f h),
       )
 

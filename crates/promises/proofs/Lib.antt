@@ -1,4 +1,5 @@
 pub mod Demands
+pub mod Present
 pub mod Naming
 pub mod NotTwo
 pub mod Sending

@@ -32,9 +32,12 @@ use Rattle.packet.specs.Structure.{key, same, lastOf, outerBy, frame, rightSum,
 use Rattle.packet.specs.Judge.{Knowing, has, among, clean, wrong, faultOf, Judged, fine, faulty, noVersion, later, onFault, judgeFrom, judge}
 use Rattle.packet.specs.Verdict.{placed, verdict, received, checked}
 use Rattle.packet.specs.Encode.{encode}
+use Rattle.rows.specs.Present.{presentIn}
 use Rattle.packet.specs.Rows.{rowsIn, piecesOf, lentVerdict, readAnswer}
-use Rattle.outgoing.specs.Outgoing.{rightRows, byRow, sendable, outgoing}
-use Rattle.writer.specs.Writes.{written, writeAnswer}
+use Rattle.outgoing.specs.Outgoing.{rightRows, agrees, byRow, sendable, outgoingWith, outgoing}
+use Rattle.outgoing.specs.declared.Handed.{Handed}
+use Rattle.outgoing.specs.declared.Handed.the-variants.{Nothing}
+use Rattle.writer.specs.Writes.{writtenWith, writeAnswerWith, written, writeAnswer}
 use Rattle.relay.specs.Forwards.{ownTable, forwardAnswer}
 use Rattle.ground.specs.Ground.{fromRows}
 use Rattle.listing.specs.Lists.{textAnswer}
@@ -160,18 +163,23 @@ unfolding sendable judge
 sendable-not K cs =
     by-then (by-test (ltb 8192 (length (encode cs))) (other refl) gives) (λ _. by-then (ends-not _) (λ _. by-then (judge-not K [] cs) (λ _. gives)))
 
-module _ (K : TagSet) (count : ℕ) (words b o : List ℕ) where
-  -- 1 and 16
-  outgoing-not : NotTwo (outgoing K count words b)
-  unfolding outgoing
+module _ (K : TagSet) (h : Handed) (count : ℕ) (words b o : List ℕ) where
+  -- 1, 16 and 22
+  outgoing-not : NotTwo (outgoingWith K h count words b)
   outgoing-not =
       by-then (by-test (good K) gives (other refl)) (λ _. by-then (by-test (countGood count (length words)) gives (other refl))
-      (λ _. by-then (good-not (holds K) (length b) 0 (rowsIn 0 count words)) (λ _. sendable-not (holds K) (piecesOf (holds K) b (rowsIn 0 count words)))))
+      (λ _. by-then (good-not (holds K) (length b) 0 (rowsIn 0 count words))
+      (λ _. by-then (by-test (agrees h (presentIn (rowsIn 0 count words))) gives (other refl))
+      (λ _. sendable-not (holds K) (piecesOf (holds K) b (rowsIn 0 count words))))))
 
   -- 18
-  pub write-not : NotTwo (writeAnswer K count words b o)
-  unfolding writeAnswer written
-  write-not = by-map _ (by-then outgoing-not (λ cs. by-test (ltb (length o) (length (encode cs))) (other refl) gives))
+  pub handed-not : NotTwo (writeAnswerWith K h count words b o)
+  unfolding writeAnswerWith writtenWith
+  handed-not = by-map _ (by-then outgoing-not (λ cs. by-test (ltb (length o) (length (encode cs))) (other refl) gives))
+
+pub write-not : (K : TagSet) (count : ℕ) (words b o : List ℕ) → NotTwo (writeAnswer K count words b o)
+unfolding writeAnswer writeAnswerWith written writtenWith outgoing
+write-not K count words b o = handed-not K Nothing count words b o
 
 pub forward-not : (K : TagSet) (p o : List ℕ) → NotTwo (forwardAnswer K p o)
 unfolding forwardAnswer

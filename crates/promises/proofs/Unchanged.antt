@@ -13,18 +13,27 @@ use Rattle.refusal.proofs.Answers.{not-given, map-refused}
 use Rattle.tagset.specs.Sets.{holds}
 use Rattle.tagset.specs.declared.TagSet.{TagSet}
 use Rattle.packet.specs.Rows.{Filled, filledBy, lentVerdict, readAnswer, tableBy, readTable}
-use Rattle.writer.specs.Writes.{written, writtenBy, outputBy, writeAnswer, writeOutput}
+use Rattle.outgoing.specs.Outgoing.{outgoing}
+use Rattle.outgoing.specs.declared.Handed.{Handed}
+use Rattle.outgoing.specs.declared.Handed.the-variants.{Nothing}
+use Rattle.writer.specs.Writes.{writtenWith, writtenBy, outputBy, writeAnswerWith, writeOutputWith, written, writeAnswer, writeOutput}
 use Rattle.relay.specs.Forwards.{ownTable, forwardAnswer, forwardOutput}
 use Rattle.listing.specs.Lists.{textAnswer}
 
 module _ (n a u : ℕ) (K : TagSet) where
   pub table-stays : (p t : List ℕ) → readAnswer K p t ≡ refused n a u → readTable K p t ≡ t
   unfolding readAnswer readTable
-  table-stays p t e = ap (tableBy (holds K) t) (map-refused filledBy (lentVerdict K p t) n a u e)
+  table-stays p t e = ap (tableBy (holds K) t) (map-refused (filledBy (holds K)) (lentVerdict K p t) n a u e)
+
+  -- whatever the writer is handed
+  pub handed-stays : (h : Handed) (count : ℕ) (words b o : List ℕ) → writeAnswerWith K h count words b o ≡ refused n a u
+      → writeOutputWith K h count words b o ≡ o
+  unfolding writeAnswerWith writeOutputWith
+  handed-stays h count words b o e = ap (outputBy o) (map-refused writtenBy (writtenWith K h count words b (length o)) n a u e)
 
   pub output-stays : (count : ℕ) (words b o : List ℕ) → writeAnswer K count words b o ≡ refused n a u → writeOutput K count words b o ≡ o
-  unfolding writeAnswer writeOutput
-  output-stays count words b o e = ap (outputBy o) (map-refused writtenBy (written K count words b (length o)) n a u e)
+  unfolding writeAnswer writeOutput writeAnswerWith writeOutputWith written writtenWith outgoing
+  output-stays count words b o e = handed-stays Nothing count words b o e
 
   pub forward-stays : (p o : List ℕ) → forwardAnswer K p o ≡ refused n a u → forwardOutput K p o ≡ o
   unfolding forwardAnswer forwardOutput

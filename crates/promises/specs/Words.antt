@@ -28,14 +28,14 @@ pub record Starts (is : List Item) (place tag : ℕ) : Type 0 where
   pub start : item .start ≡ place
   pub named : item .piece .tag ≡ tag
 
--- who has checked it knows where its items begin, and how many there are
+-- who has checked it knows where its items begin, how many there are, and as two words which known ones
 pub record CheckedAs (K : TagSet) (p : List ℕ) (b : Accepted) : Type 0 where
   pub packet : AllowedTo K p
-  pub body : b ≡ bodyOf (packet .items)
+  pub body : b ≡ bodyOf (holds K) (packet .items)
 
--- who has read it has the items' count, and their rows in the table lent
+-- who has read it has the items' count and the two words beside their rows, and the rows in the table lent
 pub record ReadAs (K : TagSet) (p t : List ℕ) (done : Filled) (t′ : List ℕ) : Type 0 where
   pub packet : AllowedTo K p
   pub long : 512 ≤ length t
-  pub count : done ≡ filledBy (packet .items)
+  pub filled : done ≡ filledBy (holds K) (packet .items)
   pub table : t′ ≡ tableOf (holds K) (packet .items) t

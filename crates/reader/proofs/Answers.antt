@@ -31,7 +31,7 @@ use Rattle.reader.proofs.Headers.{items-past}
 module _ (K : TagSet) (p t : List ℕ) where
   by-verdict : (n a g : ℕ) → lentVerdict K p t ≡ refused n a g → (r : Reading) → readSaid r ≡ refused n a g → Reads K p t r t
   unfolding readAnswer readTable
-  by-verdict n a g e r s = record { answer = s ∙ sym (ap (map filledBy) e); table = sym (ap (tableBy (holds K) t) e) }
+  by-verdict n a g e r s = record { answer = s ∙ sym (ap (map (filledBy (holds K))) e); table = sym (ap (tableBy (holds K) t) e) }
 
   pub not-good : good K ≡ false → (r : Reading) → readSaid r ≡ refused 1 0 0 → Reads K p t r t
   unfolding lentVerdict
@@ -49,17 +49,17 @@ module _ (K : TagSet) (p t : List ℕ) where
 
       pub refused-packet : (n a b : ℕ) → checked K p ≡ refused n a b → (r : Reading) → readSaid r ≡ refused n a b → Reads K p t r t
       unfolding checked
-      refused-packet n a b e r s = by-verdict n a b (lent-received ∙ map-refused bodyOf (received K p) n a b e) r s
+      refused-packet n a b e r s = by-verdict n a b (lent-received ∙ map-refused (bodyOf (holds K)) (received K p) n a b e) r s
 
       -- an accepted packet
       pub record Taken (b : Accepted) : Type 0 where
         pub items : List Item
         pub accepts : received K p ≡ given items
-        pub body : b ≡ bodyOf items
+        pub body : b ≡ bodyOf (holds K) items
 
       pub taken : (b : Accepted) → checked K p ≡ given b → Taken b
       unfolding checked
-      taken b e = let r = map-given bodyOf (received K p) e in record { items = r .0; accepts = r .1; body = sym (r .2) }
+      taken b e = let r = map-given (bodyOf (holds K)) (received K p) e in record { items = r .0; accepts = r .1; body = sym (r .2) }
 
       module _ (by : Bytes p) (b : Accepted) (k : Taken b) where
         pub few : b .count ≤ 128
@@ -75,14 +75,14 @@ module _ (K : TagSet) (p t : List ℕ) where
             record { begins = begins; accepted = k .accepts; past = rw first (items-past p by (k .items) (a .found)) }
 
         pub filled : (t′ t″ : List ℕ) → t′ ≡ sets t 0 (words (rowsOf (holds K) (itemsOf K p))) → t″ ≡ sets t′ (4 * b .count) (replicate (512 - 4 * b .count) 0)
-            → Reads K p t (Rows (record { count = b .count })) t″
+            → Reads K p t (Rows (record { count = b .count; present = b .present })) t″
         unfolding readAnswer readTable
         filled t′ t″ e f =
             let v : lentVerdict K p t ≡ given (k .items) = lent-received ∙ k .accepts in
             let n : b .count ≡ length (k .items) = ap (λ x. x .count) (k .body) in
             let q : t′ ≡ sets t 0 (words (rowsOf (holds K) (k .items))) = e ∙ ap (λ w. sets t 0 (words (rowsOf (holds K) (orNone w)))) (k .accepts) in
             record {
-              answer = ap (λ m. given (record { count = m })) n ∙ sym (ap (map filledBy) v);
+              answer = ap (λ x. given (record { count = x .count; present = x .present })) (k .body) ∙ sym (ap (map (filledBy (holds K))) v);
               table = f ∙ (ap (λ l. sets l (4 * b .count) (replicate (512 - 4 * b .count) 0)) q
                   ∙ (ap (λ m. sets (sets t 0 (words (rowsOf (holds K) (k .items)))) (4 * m) (replicate (512 - 4 * m) 0)) n
                   ∙ (table-is (holds K) (k .items) t (rw (← n) few) room

@@ -20,7 +20,7 @@ use Rattle.catalogue.specs.declared.Shape.{Shape}
 use Rattle.catalogue.specs.declared.Shape.the-variants.{Text, Number, Absent}
 use Rattle.rows.specs.Meaning.{markCode}
 use Rattle.rows.proofs.Laws.{code-seen}
-use Rattle.packet.specs.Rows.{meaningOf, kindOf, codeOf}
+use Rattle.rows.specs.Meaning.{meaningOf, kindOf, codeOf}
 use Rattle.reader.specs.code.Filling.{Fitting, Narrow, topOf, kindBy}
 
 -- bytes after others: what those say stands above

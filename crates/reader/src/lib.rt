@@ -188,7 +188,8 @@ pub fn read(packet: &[u8], known: TagSet, table: &mut [u64]) -> Reading
                 let count = accepted.count;
                 fill(packet, accepted.from, known, table);
                 clear(table, 4 * count);
-                Reading::Rows(Filled { count })
+                let present = accepted.present;
+                Reading::Rows(Filled { count, present })
             }
         };
     }

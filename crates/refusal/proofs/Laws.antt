@@ -11,14 +11,14 @@ use Rattle.refusal.specs.declared.Reason.{Reason}
 use Rattle.refusal.specs.declared.Reason.the-variants.{SetNotGood, TableTooShort, PacketTooLong, KeyDiffers, OuterLengthWrong, TooManyItems, TagBroken}
 use Rattle.refusal.specs.declared.Reason.the-variants.{LengthBroken, FirstNotTimeStamp, LastNotChecksum, ChecksumDiffers, LengthNotAllowed}
 use Rattle.refusal.specs.declared.Reason.the-variants.{KnownTagTwice, CodeNotAllowed, VersionMissing, RowCountTooLarge, RowBad, OutputTooShort}
-use Rattle.refusal.specs.declared.Reason.the-variants.{NoScale, NotANumber, ValueOutOfRange}
+use Rattle.refusal.specs.declared.Reason.the-variants.{NoScale, NotANumber, ValueOutOfRange, WordsDisagree}
 
 reasons : List Reason
 reasons =
     SetNotGood ∷ TableTooShort ∷ PacketTooLong ∷ KeyDiffers ∷ OuterLengthWrong ∷ TooManyItems ∷ TagBroken
     ∷ LengthBroken ∷ FirstNotTimeStamp ∷ LastNotChecksum ∷ ChecksumDiffers ∷ LengthNotAllowed ∷ KnownTagTwice
     ∷ CodeNotAllowed ∷ VersionMissing ∷ RowCountTooLarge ∷ RowBad ∷ OutputTooShort ∷ NoScale ∷ NotANumber
-    ∷ ValueOutOfRange ∷ []
+    ∷ ValueOutOfRange ∷ WordsDisagree ∷ []
 
 pub numbered : ℕ → Reason
 numbered n = getD reasons (n - 1) SetNotGood
@@ -46,6 +46,7 @@ number-back OutputTooShort = refl
 number-back NoScale = refl
 number-back NotANumber = refl
 number-back ValueOutOfRange = refl
+number-back WordsDisagree = refl
 
 pub number-apart : (r s : Reason) → number r ≡ number s → r ≡ s
 number-apart r s e = sym (number-back r) ∙ ap numbered e ∙ number-back s

@@ -1,10 +1,10 @@
--- Document 01, "Refusals, by number": the number of each reason.
+-- Document 01, "Refusals, by number": the number of each reason; and W-201's, "22, words disagree".
 use Prim.Native.Nat.{ℕ}
 use Rattle.refusal.specs.declared.Reason.{Reason}
 use Rattle.refusal.specs.declared.Reason.the-variants.{SetNotGood, TableTooShort, PacketTooLong, KeyDiffers, OuterLengthWrong, TooManyItems}
 use Rattle.refusal.specs.declared.Reason.the-variants.{TagBroken, LengthBroken, FirstNotTimeStamp, LastNotChecksum, ChecksumDiffers}
 use Rattle.refusal.specs.declared.Reason.the-variants.{LengthNotAllowed, KnownTagTwice, CodeNotAllowed, VersionMissing, RowCountTooLarge, RowBad}
-use Rattle.refusal.specs.declared.Reason.the-variants.{OutputTooShort, NoScale, NotANumber, ValueOutOfRange}
+use Rattle.refusal.specs.declared.Reason.the-variants.{OutputTooShort, NoScale, NotANumber, ValueOutOfRange, WordsDisagree}
 
 abbrev pub number : Reason → ℕ
 number SetNotGood = 1
@@ -28,3 +28,4 @@ number OutputTooShort = 18
 number NoScale = 19
 number NotANumber = 20
 number ValueOutOfRange = 21
+number WordsDisagree = 22

@@ -1,4 +1,4 @@
-// Why an answer is a refusal: document 01's twenty-one reasons, with the place and the tag that go with each.
+// Why an answer is a refusal: document 01's reasons and those that change requests add, with the place and the tag that go with each.
 // A reason's number is document 01's, and number, place and tag tell any two refusals apart.
 ghost use mathlib.Core.Path.{_≡_};
 ghost use Rattle.refusal.specs.Numbers.{number};
@@ -28,6 +28,8 @@ pub enum Reason {
     NoScale,
     NotANumber,
     ValueOutOfRange,
+    // of the writer that is handed the words of its rows (W-201)
+    WordsDisagree,
 }
 
 // The tag is 0 where there is none.
@@ -63,5 +65,6 @@ pub fn number_of(reason: Reason) -> u64
         Reason::NoScale => 19,
         Reason::NotANumber => 20,
         Reason::ValueOutOfRange => 21,
+        Reason::WordsDisagree => 22,
     }
 }

@@ -111,7 +111,7 @@ module _ (K : TagSet) (p : List ℕ) where
   pub forward-refused : (o : List ℕ) (n a u : ℕ) → checked K p ≡ refused n a u → (r : Forwarding) → forwardSaid r ≡ refused n a u → Forwards K p o r o
   unfolding checked readAnswer forwardAnswer forwardOutput
   forward-refused o n a u e r s =
-      let f : readAnswer K p ownTable ≡ refused n a u = ap (map filledBy) (own-received ∙ map-refused bodyOf (received K p) n a u e) in
+      let f : readAnswer K p ownTable ≡ refused n a u = ap (map (filledBy (holds K))) (own-received ∙ map-refused (bodyOf (holds K)) (received K p) n a u e) in
       record { answer = s ∙ sym (rw f); output = sym (rw f) }
 
   module _ (by : Bytes p) where
@@ -122,9 +122,9 @@ module _ (K : TagSet) (p : List ℕ) where
 
     -- a packet that the check accepts
     module _ (b : Accepted) (e : checked K p ≡ given b) where
-      taken : (is : List Item) × (received K p ≡ given is) × (bodyOf is ≡ b)
+      taken : (is : List Item) × (received K p ≡ given is) × (bodyOf (holds K) is ≡ b)
       unfolding checked
-      taken = map-given bodyOf (received K p) e
+      taken = map-given (bodyOf (holds K)) (received K p) e
 
       items-from : ItemsFrom p (b .from)
       unfolding received
@@ -145,5 +145,5 @@ module _ (K : TagSet) (p : List ℕ) where
       pub forward-sent : (o : List ℕ) (r : Forwarding) (o′ : List ℕ) → Sends (canonical p) o r o′ → Forwards K p o r o′
       unfolding readAnswer
       forward-sent o r o′ s =
-          let f = forward-is o (filledBy (taken .0)) (ap (map filledBy) (own-received ∙ taken .1)) in
+          let f = forward-is o (filledBy (holds K) (taken .0)) (ap (map (filledBy (holds K))) (own-received ∙ taken .1)) in
           record { answer = s .answer ∙ sym (f .0); output = s .output ∙ sym (f .1) }

@@ -26,9 +26,10 @@ pub struct RowWords {
     pub part: u64,
 }
 
-// A filled table: how many rows it has.
+// A filled table: how many rows it has, and as two words the tags of those that are not carried.
 pub struct Filled {
     pub count: usize,
+    pub present: TagSet,
 }
 
 // Document 01's numbers of the kinds.

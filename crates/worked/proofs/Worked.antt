@@ -6,7 +6,7 @@ use Rattle.base.specs.Every.{all}
 use Rattle.number.specs.Stored.{valueFrom}
 use Rattle.ber.specs.Read.{readTag, tagSecond, tagThird, readLength}
 use Rattle.checksum.specs.Sum.{weighed}
-use Rattle.tagset.specs.Sets.{holds}
+use Rattle.tagset.specs.Sets.{holds, withTag, same}
 use Rattle.catalogue.specs.Items.{groups, member, itemIn, itemOf}
 use Rattle.catalogue.specs.Shapes.{shapeOf, codeAllowed}
 use Rattle.catalogue.specs.Rows.{rows, rowsFrom, allTags}
@@ -14,6 +14,7 @@ use Rattle.knowing.specs.Good.{inCatalogue, good}
 use Rattle.scale.specs.Nearest.{nearest}
 use Rattle.scale.specs.Scales.{codes, half, origin, reach, steps}
 use Rattle.scale.specs.Conversions.{houseOf, toHouse, codeOf, toCode}
+use Rattle.rows.specs.Present.{presentFrom, presentIn}
 use Rattle.packet.specs.Pieces.{readItem, walk}
 use Rattle.packet.specs.Ends.{rightEnds}
 use Rattle.packet.specs.Structure.{key, frame, rightSum, structure}
@@ -26,5 +27,5 @@ pub all-right : all right values ≡ true
 unfolding values readLength valueFrom groups member itemIn itemOf codes half origin reach steps nearest houseOf toHouse codeOf toCode
     readTag tagSecond tagThird weighed holds shapeOf codeAllowed rows rowsFrom allTags inCatalogue good
     readItem walk key frame rightEnds rightSum structure faultOf judgeFrom judge verdict
-    shapeFor rowOf rowsOf words tableOf lentVerdict readAnswer readTable packet
+    shapeFor rowOf rowsOf words tableOf lentVerdict readAnswer readTable presentFrom presentIn withTag same packet
 all-right = refl

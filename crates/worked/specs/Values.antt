@@ -7,6 +7,8 @@ use lib.Dec.{eqb}
 use lib.IntN.{ℤ, pos, negsuc, negℤ}
 use Rattle.refusal.specs.Answer.{Answer, given, refused}
 use Rattle.ber.specs.Read.{Read, got, broken, readLength}
+use Rattle.tagset.specs.Sets.{knowing, same as sameSet}
+use Rattle.tagset.specs.declared.TagSet.{TagSet}
 use Rattle.catalogue.specs.Rows.{allTags}
 use Rattle.scale.specs.Conversions.{toHouse, toCode}
 use Rattle.scale.specs.declared.House.{House}
@@ -49,7 +51,7 @@ abbrev pub sameCode : Code → Code → Bool
 sameCode c d = eqb (c .code) (d .code)
 
 abbrev pub sameFilled : Filled → Filled → Bool
-sameFilled f g = eqb (f .count) (g .count)
+sameFilled f g = eqb (f .count) (g .count) && sameSet (f .present) (g .present)
 
 -- a lent table of words that are not zero, one longer than the reader needs
 abbrev pub lent : List ℕ
@@ -69,15 +71,16 @@ pub data Case : Type 0 where
   -- a tag, a code and its value in house units; a tag, a value and its code
   houseCase : ℕ → ℕ → Answer House → Case
   codeCase : ℕ → ℤ → Answer Code → Case
-  -- a packet and the rows that a receiver of the whole catalogue reads
-  packetCase : List ℕ → List RowWords → Case
+  -- a packet, the rows that a receiver of the whole catalogue reads, and the two words beside them
+  packetCase : List ℕ → List RowWords → TagSet → Case
 
 abbrev pub right : Case → Bool
 right (lengthCase bytes found) = sameRead (readLength bytes) found
 right (houseCase tag code answer) = sameAnswer sameHouse (toHouse tag code) answer
 right (codeCase tag value answer) = sameAnswer sameCode (toCode tag value) answer
-right (packetCase packet rows) =
-    sameAnswer sameFilled (readAnswer allTags packet lent) (given (record { count = length rows })) && same (readTable allTags packet lent) (tableWith rows)
+right (packetCase packet rows present) =
+    sameAnswer sameFilled (readAnswer allTags packet lent) (given (record { count = length rows; present = present }))
+    && same (readTable allTags packet lent) (tableWith rows)
 
 -- "The packet key, 11, 02 08 00 00 00 00 00 00 00 01, 41 01 11, 01 02 62 A6 is accepted."
 unfoldable pub packet : List ℕ
@@ -109,6 +112,6 @@ values =
     -- a tie, and just below it
     ∷ codeCase 36 (pos 10000) (code 26)
     ∷ codeCase 36 (pos 9999) (code 25)
-    -- the packet: place, length, tag and code of its rows
-    ∷ packetCase packet (numberRow 19 8 2 1 ∷ numberRow 29 1 65 17 ∷ numberRow 32 2 1 25254 ∷ [])
+    -- the packet: place, length, tag and code of its rows; 2 and 1 are bits of the low word, 65 is bit 1 of the high one
+    ∷ packetCase packet (numberRow 19 8 2 1 ∷ numberRow 29 1 65 17 ∷ numberRow 32 2 1 25254 ∷ []) (knowing 6 2)
     ∷ []

@@ -3,4 +3,5 @@ pub mod Values
 pub mod Rest
 pub mod Whole
 pub mod Answers
+pub mod Handed
 pub mod Outcomes

@@ -9,8 +9,10 @@ ghost use Rattle.ber.specs.Written.{tagBytes, lengthBytes};
 ghost use Rattle.rows.specs.Taken.{partLength};
 ghost use Rattle.packet.specs.Structure.{key};
 ghost use Rattle.packet.specs.Encode.{itemBytes, encode};
-ghost use Rattle.writer.specs.Writes.{Writes};
+ghost use Rattle.outgoing.specs.declared.Handed.the-variants.{Words};
+ghost use Rattle.writer.specs.Writes.{WritesWith, Writes};
 ghost use Rattle.writer.specs.code.Putting.{valueSaid, pieceSaid, tableBytes, tablePieces, CanPut, Rows, Ready};
+use outgoing::Handed;
 use outgoing::Outgoing;
 use refusal::Reason;
 use refusal::Refusal;
@@ -127,12 +129,18 @@ pub enum Writing {
     Refused(Refusal),
 }
 
-// Writes count rows in lent words as a packet, with the buffer that text and carried rows point into. Bytes of the output after
-// the packet stay, and a refusal leaves all of them.
-pub fn write(known: TagSet, count: usize, words: &[u64], buffer: &[u8], out: &mut [u8]) -> Writing
-    ensures { λ r. ⌜ Writes known count (now (words .entry)) (now (buffer .entry)) (now (out .entry)) r (now (out .exit)) ⌝ }
+// The packet of count rows in lent words, or the refusal, whatever was handed beside the rows.
+fn write_handed(
+    known: TagSet,
+    handed: Handed,
+    count: usize,
+    words: &[u64],
+    buffer: &[u8],
+    out: &mut [u8],
+) -> Writing
+    ensures { λ r. ⌜ WritesWith known handed count (now (words .entry)) (now (buffer .entry)) (now (out .entry)) r (now (out .exit)) ⌝ }
 {
-    match outgoing::check_rows(known, count, words, buffer) {
+    match outgoing::check_rows(known, handed, count, words, buffer) {
         Outgoing::Refused(refusal) => Writing::Refused(refusal),
         Outgoing::Fits(packed) => {
             let size = packed.size;
@@ -147,4 +155,26 @@ pub fn write(known: TagSet, count: usize, words: &[u64], buffer: &[u8], out: &mu
             Writing::Packet(Written { size })
         }
     }
+}
+
+// Writes count rows in lent words as a packet, with the buffer that text and carried rows point into. Bytes of the output after
+// the packet stay, and a refusal leaves all of them.
+pub fn write(known: TagSet, count: usize, words: &[u64], buffer: &[u8], out: &mut [u8]) -> Writing
+    ensures { λ r. ⌜ Writes known count (now (words .entry)) (now (buffer .entry)) (now (out .entry)) r (now (out .exit)) ⌝ }
+{
+    write_handed(known, Handed::Nothing, count, words, buffer, out)
+}
+
+// The same, handed the words that say which items are there: it refuses words that a scan of its rows would not give.
+pub fn write_with(
+    known: TagSet,
+    present: TagSet,
+    count: usize,
+    words: &[u64],
+    buffer: &[u8],
+    out: &mut [u8],
+) -> Writing
+    ensures { λ r. ⌜ WritesWith known (Words present) count (now (words .entry)) (now (buffer .entry)) (now (out .entry)) r (now (out .exit)) ⌝ }
+{
+    write_handed(known, Handed::Words(present), count, words, buffer, out)
 }

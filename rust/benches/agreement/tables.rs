@@ -1,8 +1,8 @@
 //! The writers on the rows of packets, and on damaged ones.
 
-use super::{damaged_packet, in_numbers, lent, Dice, Lent, PLENTY};
+use super::{damaged_packet, in_numbers, lent, Dice, Lent, Met, PLENTY};
 use crate::rival;
-use oysterknoll::{Knowing, LONGEST_PACKET, TABLE_WORDS};
+use oysterknoll::{Knowing, Present, LONGEST_PACKET, TABLE_WORDS};
 
 /// What a writer is lent beside the set and the output.
 #[derive(Debug)]
@@ -12,15 +12,28 @@ struct Table {
     buffer: Vec<u8>,
 }
 
-/// Compares the writers on the rows of these packets and on so many damaged tables, and answers how often each refusal was met,
-/// written packets at 0.
+impl Table {
+    /// The words that a scan of the rows gives.
+    fn present(&self) -> [u64; 2] {
+        let mut present = [0; 2];
+        for row in self.words.chunks_exact(4).take(self.count) {
+            if row[0] < 128 && row[1] != 4 {
+                present[(row[0] / 64) as usize] |= 1 << (row[0] % 64);
+            }
+        }
+        present
+    }
+}
+
+/// Compares the writers on the rows of these packets and on so many damaged tables, and answers how often each refusal was met by the
+/// one that is handed words, written packets at 0.
 pub fn compare_writers<'a>(
     whole: impl Iterator<Item = &'a Vec<u8>>,
     damaged: usize,
-) -> Result<[usize; 22], String> {
-    let mut met = [0; 22];
+) -> Result<Met, String> {
+    let mut met = [0; 23];
     for table in whole.filter_map(|packet| table_of(packet, Knowing::ALL)) {
-        met[compare(&table, &PLENTY)?] += 1;
+        met[compare(&table, table.present(), &PLENTY)?] += 1;
     }
     let mut dice = Dice(601);
     let mut left = damaged;
@@ -31,7 +44,11 @@ pub fn compare_writers<'a>(
             for _ in 0..dice.throw(3) {
                 damage(&mut table, &mut dice);
             }
-            met[compare(&table, &lent)?] += 1;
+            let mut present = table.present();
+            if dice.throw(4) == 0 {
+                present[dice.throw(2)] ^= 1 << dice.throw(64);
+            }
+            met[compare(&table, present, &lent)?] += 1;
             left -= 1;
         }
     }
@@ -42,7 +59,7 @@ pub fn compare_writers<'a>(
 fn table_of(packet: &[u8], knowing: Knowing) -> Option<Table> {
     let (low, high) = knowing.words();
     let (mut words, mut buffer) = (vec![0; TABLE_WORDS], packet.to_vec());
-    let count = rival::read(packet, low, high, &mut words).ok()?;
+    let count = rival::read(packet, low, high, &mut words).ok()?.count;
     buffer.resize(LONGEST_PACKET, 0x5A);
     Some(Table {
         words,
@@ -51,23 +68,30 @@ fn table_of(packet: &[u8], knowing: Knowing) -> Option<Table> {
     })
 }
 
-/// The number of the refusal where answer and output agree.
-fn compare(table: &Table, lent: &Lent) -> Result<usize, String> {
+/// The number of the refusal, with the words handed, where answers and outputs agree with and without them.
+fn compare(table: &Table, present: [u64; 2], lent: &Lent) -> Result<usize, String> {
     let Table {
         words,
         count,
         buffer,
     } = table;
     let (low, high) = lent.knowing.words();
-    let [mut out, mut rival_out] = [(); 2].map(|()| vec![0xA5; lent.out_bytes]);
-    let written = oysterknoll::write(words, *count, buffer, lent.knowing, &mut out);
-    let written = written.map_err(in_numbers);
-    let rival_written = rival::write(words, *count, buffer, low, high, &mut rival_out);
-    if written == rival_written && out == rival_out {
-        Ok(written.map_or_else(|refusal| refusal.number as usize, |_| 0))
+    let [mut out, mut rival_out, mut plain, mut rival_plain] =
+        [(); 4].map(|()| vec![0xA5; lent.out_bytes]);
+    let knowing = lent.knowing;
+    let handed = Present::from_words(present[0], present[1]);
+    let written = oysterknoll::write_with(words, *count, buffer, knowing, handed, &mut out);
+    let unhanded = oysterknoll::write(words, *count, buffer, knowing, &mut plain);
+    let answers = [written, unhanded].map(|answer| answer.map_err(in_numbers));
+    let rival_answers = [
+        rival::write_with(words, *count, buffer, low, high, present, &mut rival_out),
+        rival::write(words, *count, buffer, low, high, &mut rival_plain),
+    ];
+    if answers == rival_answers && out == rival_out && plain == rival_plain {
+        Ok(written.map_or_else(|refusal| refusal.number() as usize, |_| 0))
     } else {
         Err(format!(
-            "the rival disagrees on {table:X?} with {lent:?}: {written:?}, {rival_written:?}"
+            "the rival disagrees on {table:X?} with {lent:?}, {present:X?}: {answers:?}, {rival_answers:?}"
         ))
     }
 }

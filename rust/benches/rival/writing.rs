@@ -110,6 +110,12 @@ impl Judge {
         tag < 128 && self.knowing[(tag / 64) as usize] >> (tag % 64) & 1 == 1
     }
 
+    /// The known tags that were met.
+    fn met(&self) -> [u64; 2] {
+        let ([low, high], [low_left, high_left]) = (self.knowing, self.awaited);
+        [low ^ low_left, high ^ high_left]
+    }
+
     /// The size of row n, unless it is bad.
     #[inline(always)]
     fn size(&mut self, n: usize, words: &[u64], buffer: usize) -> Result<usize, Refusal> {
@@ -166,17 +172,25 @@ fn fault(row: Row, rule: Rule, is_fresh: bool) -> Option<u64> {
     }
 }
 
-/// The size of all items, where the rows can be written.
+/// The size of all items, where the rows can be written and have the words handed, if any are.
 #[inline(always)]
-fn items_size(words: &[u64], buffer: usize, low: u64, high: u64) -> Result<usize, Refusal> {
+fn items_size(
+    words: &[u64],
+    buffer: usize,
+    knowing: [u64; 2],
+    handed: Option<[u64; 2]>,
+) -> Result<usize, Refusal> {
     let mut judge = Judge {
-        knowing: [low, high],
-        awaited: [low, high],
+        knowing,
+        awaited: knowing,
         fault: None,
     };
     let mut items = 0;
     for (n, row) in words.chunks_exact(4).enumerate() {
         items += judge.size(n, row, buffer)?;
+    }
+    if handed.is_some_and(|handed| handed != judge.met()) {
+        return Err(refusal(22, 0, 0));
     }
     if packet_size(items) > LONGEST_PACKET {
         return Err(refusal(3, 0, 0));
@@ -272,14 +286,40 @@ pub fn write(
     high: u64,
     out: &mut [u8],
 ) -> Result<usize, Refusal> {
-    if !good(low, high) {
+    write_rows(words, count, buffer, [low, high], None, out)
+}
+
+/// The same, handed the words for which items are there.
+#[inline(never)]
+pub fn write_with(
+    words: &[u64],
+    count: usize,
+    buffer: &[u8],
+    low: u64,
+    high: u64,
+    present: [u64; 2],
+    out: &mut [u8],
+) -> Result<usize, Refusal> {
+    write_rows(words, count, buffer, [low, high], Some(present), out)
+}
+
+#[inline(always)]
+fn write_rows(
+    words: &[u64],
+    count: usize,
+    buffer: &[u8],
+    knowing: [u64; 2],
+    handed: Option<[u64; 2]>,
+    out: &mut [u8],
+) -> Result<usize, Refusal> {
+    if !good(knowing[0], knowing[1]) {
         return Err(refusal(1, 0, 0));
     }
     if count > MOST_ITEMS {
         return Err(refusal(16, 0, 0));
     }
     let words = words.get(..4 * count).ok_or(refusal(16, 0, 0))?;
-    let items = items_size(words, buffer.len(), low, high)?;
+    let items = items_size(words, buffer.len(), knowing, handed)?;
     let size = packet_size(items);
     let out = out.get_mut(..size).ok_or(refusal(18, 0, 0))?;
     put(out, 0, &KEY);

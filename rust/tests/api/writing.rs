@@ -1,7 +1,7 @@
 //! Packets built from rows: the same answers as the writer's over words.
 
 use super::walk::RECEIVERS;
-use super::{accepted, refused, sample};
+use super::{accepted, count, refused, sample};
 use oysterknoll::Content::{Carried, Mark, Reading, Text};
 use oysterknoll::*;
 
@@ -132,7 +132,7 @@ fn a_packet_may_be_as_long_as_the_longest() {
     let room = LONGEST_PACKET - 40;
     let packet = written(&within(&[row(40, Carried(&bytes[..room]))]), Knowing::ALL);
     assert_eq!(packet.len(), LONGEST_PACKET);
-    assert_eq!(check(&packet, Knowing::ALL), Ok(4));
+    assert_eq!(count(&packet), Ok(4));
     let too_long = refused_within(&[row(40, Carried(&bytes[..=room]))]);
     assert_eq!(too_long, (3, 0, 0));
 }
@@ -162,7 +162,7 @@ fn values_that_are_too_long_together_are_refused_as_any_others() {
 fn rows_over_128_get_16() {
     let empty = row(40, Carried(&[]));
     let most = within(&[empty; 125]);
-    assert_eq!(check(&written(&most, Knowing::ALL), Knowing::ALL), Ok(128));
+    assert_eq!(count(&written(&most, Knowing::ALL)), Ok(128));
     let long = [0; LONGEST_PACKET];
     for one in [empty, row(0, Mark), row(40, Carried(&long))] {
         for count in [126, 500] {

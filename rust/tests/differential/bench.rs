@@ -1,6 +1,6 @@
 //! Runs the cases of a law and counts what came.
 
-use crate::compare::{holds, Comparer, Tally, Verdict};
+use crate::compare::{holds, Comparer, Tally, Verdict, LAST_REFUSAL};
 use crate::lists::List;
 use crate::make::Maker;
 use crate::random::{setting, Random};
@@ -113,7 +113,7 @@ pub fn must_hold(verdict: Verdict) {
 }
 
 pub fn report(name: &str, tally: &Tally) {
-    let came = (1..22).filter(|&number| tally.refusals[number] > 0);
+    let came = (1..=LAST_REFUSAL).filter(|&number| tally.refusals[number] > 0);
     let refusals: String = came
         .map(|number| format!("; {number}: {}", tally.refusals[number]))
         .collect();

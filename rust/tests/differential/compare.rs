@@ -2,7 +2,7 @@
 
 use std::fmt::Debug;
 
-use oysterknoll::{catalogue, Knowing, Refusal};
+use oysterknoll::{catalogue, Knowing, Present, Refusal};
 
 use crate::lent::Lent;
 use crate::same::{corner, height, item, row_of, same_row, same_rows, same_walk};
@@ -23,12 +23,15 @@ pub fn holds(law: bool, what: impl FnOnce() -> String) -> Verdict {
     }
 }
 
+/// The documents' last refusal.
+pub const LAST_REFUSAL: usize = 22;
+
 /// How many comparisons there were, how many were accepted, and how often each refusal came.
 #[derive(Clone, Copy, Default)]
 pub struct Tally {
     pub cases: u64,
     pub accepted: u64,
-    pub refusals: [u64; 22],
+    pub refusals: [u64; LAST_REFUSAL + 1],
 }
 
 /// Calls the product and the twin alike.
@@ -57,6 +60,16 @@ pub fn knowing(set: u128) -> Knowing {
     Knowing::from_words(set as u64, (set >> 64) as u64)
 }
 
+pub fn present(words: u128) -> Present {
+    Present::from_words(words as u64, (words >> 64) as u64)
+}
+
+/// The product's two words as the twin has them.
+pub fn words(present: Present) -> u128 {
+    let (low, high) = present.words();
+    u128::from(high) << 64 | u128::from(low)
+}
+
 pub fn of_product(refusal: Refusal) -> Refused {
     refused(refusal.number(), refusal.place, refusal.tag)
 }
@@ -73,9 +86,40 @@ impl Comparer {
     }
 
     pub fn check(&mut self, packet: &[u8], set: u128) -> Verdict {
-        let twin = self.twin.read(packet, set, None).map(|rows| rows.len());
+        let rows = self.twin.read(packet, set, None);
+        let twin = rows.map(|rows| (rows.len(), self.twin.words_of(&rows)));
         let product = oysterknoll::check(packet, knowing(set));
+        let product = product.map(|accepted| (accepted.count, words(accepted.present)));
         self.agree(Asked::of("check", packet, set), product, twin, true)
+    }
+
+    /// The words of a packet asked for these tags, each answer being that of a scan of the rows.
+    pub fn asked(
+        &mut self,
+        packet: &[u8],
+        set: u128,
+        mut tags: impl Iterator<Item = u64>,
+    ) -> Verdict {
+        let rows = self.twin.read(packet, set, None);
+        let product = oysterknoll::check(packet, knowing(set));
+        let differs = match (&product, &rows) {
+            (Ok(product), Ok(rows)) => {
+                tags.find(|&tag| product.present.has(tag) != self.twin.is_there(rows, tag))
+            }
+            _ => None,
+        };
+        let (product, twin) = (product.map(|_| ()), rows.map(|_| ()));
+        let numbers = [differs.unwrap_or(0) as usize];
+        let asked = Asked::of("present", packet, set).with(&numbers);
+        self.agree(asked, product, twin, differs.is_none())
+    }
+
+    /// Any two words asked for a tag.
+    pub fn has(&mut self, words: u128, tag: u64) -> Verdict {
+        let twin = self.twin.has(words, tag);
+        let product = present(words).has(tag);
+        let asked = Asked::of("has", &[], words);
+        self.agree(asked.with(&[tag as usize]), Ok(product), Ok(twin), true)
     }
 
     pub fn read(&mut self, packet: &[u8], set: u128, table_words: usize) -> Verdict {
@@ -87,13 +131,13 @@ impl Comparer {
             (Ok(product), Ok(rows)) => same_rows(product, rows, packet),
             _ => true,
         };
-        let product = product.map(|rows| rows.len());
+        let product = product.map(|rows| (rows.len(), words(rows.present())));
         self.words.clear();
         if let Ok(rows) = &rows {
             self.twin.put_table(rows, &mut self.words);
         }
         let memory_is_right = self.table.holds_only(&self.words);
-        let twin = rows.map(|rows| rows.len());
+        let twin = rows.map(|rows| (rows.len(), self.twin.words_of(&rows)));
         self.agree(
             asked.with(&[table_words]),
             product,
@@ -133,12 +177,30 @@ impl Comparer {
     /// `room` gives the output's length for the length that is needed.
     pub fn write(&mut self, lent: Rows, room: impl FnOnce(usize) -> usize) -> Verdict {
         let asked = Asked::of_rows("write", lent);
-        let written = self.twin.written(lent);
+        let written = self.twin.written(lent, None);
         let length = room(written.as_ref().map_or(64, Vec::len));
         let out = self.out.lend(length);
         let set = knowing(lent.set);
         let product = oysterknoll::write(lent.words, lent.count, lent.buffer, set, out);
         self.agree_on_bytes(asked.with(&[lent.count, length]), product, written, length)
+    }
+
+    /// The writer handed these words for which items are there.
+    pub fn write_with(
+        &mut self,
+        lent: Rows,
+        handed: u128,
+        room: impl FnOnce(usize) -> usize,
+    ) -> Verdict {
+        let asked = Asked::of_rows("write_with", lent);
+        let written = self.twin.written(lent, Some(handed));
+        let length = room(written.as_ref().map_or(64, Vec::len));
+        let out = self.out.lend(length);
+        let (set, there) = (knowing(lent.set), present(handed));
+        let product = oysterknoll::write_with(lent.words, lent.count, lent.buffer, set, there, out);
+        let (low, high) = there.words();
+        let numbers = [lent.count, length, low as usize, high as usize];
+        self.agree_on_bytes(asked.with(&numbers), product, written, length)
     }
 
     pub fn write_rows(

@@ -5,9 +5,26 @@ use oysterknoll::LONGEST_LISTING;
 use crate::bench::Bench;
 use crate::compare::{Verdict, MOST_OUT};
 use crate::random::Random;
+use crate::wire::LAST_TAG;
 
 /// The lengths a lent table may have, most often a sufficient one.
 const TABLE_WORDS: [usize; 12] = [0, 1, 511, 512, 512, 512, 512, 513, 513, 520, 520, 544];
+
+/// Tags far beyond the catalogue, among them some that a shift or a cut takes for 23, 65 or 2.
+const FAR_TAGS: [u64; 12] = [
+    16_384 + 23,
+    LAST_TAG,
+    1 << 32 | 23,
+    1 << 32 | 65,
+    1 << 38 | 23,
+    1 << 39 | 1,
+    1 << 63,
+    1 << 63 | 2,
+    1 << 63 | 65,
+    u64::MAX - 127 + 65,
+    u64::MAX - 63 + 23,
+    u64::MAX,
+];
 
 pub fn reader(bench: &mut Bench) -> Verdict {
     bench.make_packet();
@@ -18,6 +35,18 @@ pub fn reader(bench: &mut Bench) -> Verdict {
         bench.comparer.read(&bench.packet, set, table_words)?;
     }
     Ok(())
+}
+
+/// The words of a packet asked for many tags, and any words for any tag.
+pub fn asked(bench: &mut Bench) -> Verdict {
+    bench.make_packet();
+    let set = bench.maker.set();
+    let tags = (0..=300).chain(FAR_TAGS);
+    bench.comparer.asked(&bench.packet, set, tags)?;
+    let random = &mut bench.maker.random;
+    let (words, near, far) = (random.pair(), random.below(300), random.next());
+    let tag = random.pick(&[near as u64, near as u64, far]);
+    bench.comparer.has(words, tag)
 }
 
 pub fn walker(bench: &mut Bench) -> Verdict {
@@ -44,6 +73,17 @@ pub fn writer(bench: &mut Bench) -> Verdict {
     for _ in 0..2 {
         let room = room(&mut bench.maker.random);
         bench.comparer.write(bench.table.lent(), room)?;
+    }
+    Ok(())
+}
+
+pub fn writer_with_words(bench: &mut Bench) -> Verdict {
+    bench.make_table();
+    let lent = bench.table.lent();
+    for _ in 0..2 {
+        let handed = bench.maker.handed(lent);
+        let room = room(&mut bench.maker.random);
+        bench.comparer.write_with(lent, handed, room)?;
     }
     Ok(())
 }

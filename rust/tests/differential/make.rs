@@ -269,7 +269,7 @@ impl Maker {
     }
 
     pub fn good_set(&mut self) -> u128 {
-        let any = u128::from(self.random.next()) << 64 | u128::from(self.random.next());
+        let any = self.random.pair();
         match self.random.below(8) {
             0 => SMALLEST,
             1 => ALL,
@@ -286,7 +286,7 @@ impl Maker {
         match self.random.below(6) {
             0 => 0,
             1 => u128::MAX,
-            2 => u128::from(self.random.next()) << 64 | u128::from(self.random.next()),
+            2 => self.random.pair(),
             3 => good | 1 << self.random.pick(&[0, 40, 54, 58, 66, 69, 81, 92, 127]),
             _ => good & !(1 << self.random.pick(&[1, 2, 65])),
         }

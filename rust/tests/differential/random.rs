@@ -21,6 +21,10 @@ impl Random {
         mixed ^ mixed >> 31
     }
 
+    pub fn pair(&mut self) -> u128 {
+        u128::from(self.next()) << 64 | u128::from(self.next())
+    }
+
     pub fn below(&mut self, bound: usize) -> usize {
         ((u128::from(self.next()) * bound as u128) >> 64) as usize
     }

@@ -1,4 +1,4 @@
-//! The twin: what document 01 says, in plain Rust, written from that document alone.
+//! The twin: what documents 01 and 02 say, in plain Rust, written from those documents alone.
 //!
 //! It takes a packet apart first and then asks one judgement after the other, in the document's order.
 
@@ -50,6 +50,12 @@ alterations! {
     LongRecordWrapped,
     MarkForAnyNumber,
     Units36And55Swapped,
+    CarriedSetsItsBit,
+    SecondClearsTheBit,
+    AskedModulo128,
+    BitTooManyIsTaken,
+    WordsBeforeRows,
+    WordsAfterSize,
 }
 
 /// The twin, with at most one rule told wrongly.
@@ -58,7 +64,7 @@ pub struct Twin {
     altered: Option<Altered>,
 }
 
-/// A refusal: document 01's number, place and tag.
+/// A refusal: number, place and tag as the documents have them.
 #[derive(Clone, Copy, PartialEq, Eq, Debug)]
 pub struct Refused {
     pub number: u64,

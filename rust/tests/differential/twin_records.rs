@@ -40,7 +40,7 @@ impl Twin {
         for record in records {
             rows.push(self.row_of(record, &mut buffer));
         }
-        self.written_rows(&rows, &buffer, set)
+        self.written_rows(&rows, &buffer, set, None)
     }
 
     /// A record as a row, its value put at the buffer's end.

@@ -16,18 +16,44 @@ pub struct Rows<'a> {
     pub set: u128,
 }
 
+impl Rows<'_> {
+    /// The rows that there are words for.
+    pub fn rows(self) -> Vec<Row> {
+        let rows = self.words.chunks_exact(4).take(self.count);
+        rows.map(Row::from_words).collect()
+    }
+}
+
 impl Twin {
-    /// The packet of these rows, in an output that is long enough.
-    pub fn written(self, lent: Rows) -> Result<Vec<u8>, Refused> {
+    /// The packet of these rows, in an output that is long enough; the words for which items are there may be handed too.
+    pub fn written(self, lent: Rows, handed: Option<u128>) -> Result<Vec<u8>, Refused> {
         let rows = self.rows(lent)?;
-        self.written_rows(&rows, lent.buffer, lent.set)
+        self.written_rows(&rows, lent.buffer, lent.set, handed)
     }
 
-    /// The packet of rows that are not too many, if none of them is bad.
-    pub fn written_rows(self, rows: &[Row], buffer: &[u8], set: u128) -> Result<Vec<u8>, Refused> {
+    /// The packet of rows that are not too many: 17, 22 and 3, then the packet's own rules.
+    pub fn written_rows(
+        self,
+        rows: &[Row],
+        buffer: &[u8],
+        set: u128,
+        handed: Option<u128>,
+    ) -> Result<Vec<u8>, Refused> {
         let is_bad = |row: &Row| !self.is_good_row(row, buffer, set);
-        match rows.iter().position(is_bad) {
-            Some(n) => Err(self.bad_row(n, rows[n].tag)),
+        let bad = rows.iter().position(is_bad);
+        let mut judgements = [
+            bad.map(|n| self.bad_row(n, rows[n].tag)),
+            self.words_disagree(rows, handed),
+            self.too_long(rows),
+        ];
+        if self.is(Altered::WordsBeforeRows) {
+            judgements.swap(0, 1);
+        }
+        if self.is(Altered::WordsAfterSize) {
+            judgements.swap(1, 2);
+        }
+        match judgements.into_iter().flatten().next() {
+            Some(refusal) => Err(refusal),
             None => self.written_good_rows(rows, buffer, set),
         }
     }
@@ -49,12 +75,13 @@ impl Twin {
             rows.retain(|row| row.kind != CARRIED);
         }
         let words: Vec<u64> = rows.iter().flat_map(|row| row.words()).collect();
-        self.written(Rows {
+        let lent = Rows {
             words: &words,
             count: rows.len(),
             buffer: packet,
             set,
-        })
+        };
+        self.written(lent, None)
     }
 
     /// One row; whether the others are bad is not asked. A number past the count is the place of its 17.
@@ -76,8 +103,7 @@ impl Twin {
         if lent.count > MOST_ITEMS || 4 * lent.count > lent.words.len() {
             return Err(refused(16, 0, 0));
         }
-        let rows = lent.words.chunks_exact(4).take(lent.count);
-        Ok(rows.map(Row::from_words).collect())
+        Ok(lent.rows())
     }
 
     fn is_good_row(self, row: &Row, buffer: &[u8], set: u128) -> bool {
@@ -106,12 +132,13 @@ impl Twin {
             && row.kind == if is_mark { MARK } else { READING }
     }
 
-    /// Rows that are not bad: size, then the packet's own rules.
+    fn too_long(self, rows: &[Row]) -> Option<Refused> {
+        let items = items_size(rows);
+        (KEY.len() + length_size(items) + items > MOST_BYTES).then(|| refused(3, 0, 0))
+    }
+
+    /// Rows that are not bad, and not too long together.
     fn written_good_rows(self, rows: &[Row], buffer: &[u8], set: u128) -> Result<Vec<u8>, Refused> {
-        let items: usize = rows.iter().map(|row| self.item_size(row)).sum();
-        if KEY.len() + length_size(items) + items > MOST_BYTES {
-            return Err(refused(3, 0, 0));
-        }
         match rows.first() {
             None => return Err(refused(9, 0, 0)),
             Some(first) if first.tag != 2 => return Err(refused(9, 0, first.tag)),
@@ -129,7 +156,7 @@ impl Twin {
         if rows.iter().all(|row| row.tag != 65) && !self.is(Altered::Item65NotAsked) {
             return Err(refused(15, 0, 0));
         }
-        Ok(self.bytes(rows, items, buffer))
+        Ok(self.bytes(rows, buffer))
     }
 
     /// Refusals 12, 13 and 14 of one row.
@@ -145,11 +172,8 @@ impl Twin {
         Some(refused(number, n, row.tag))
     }
 
-    fn item_size(self, row: &Row) -> usize {
-        tag_size(row.tag) + length_size(row.length) + row.length
-    }
-
-    fn bytes(self, rows: &[Row], items: usize, buffer: &[u8]) -> Vec<u8> {
+    fn bytes(self, rows: &[Row], buffer: &[u8]) -> Vec<u8> {
+        let items = items_size(rows);
         let mut packet = Vec::with_capacity(items + 21);
         packet.extend_from_slice(&KEY);
         put_length(&mut packet, items, 0);
@@ -178,4 +202,12 @@ impl Twin {
         let named = (1..=LAST_TAG).contains(&tag) || self.is(Altered::BadRowsTagAlwaysNamed);
         refused(17, n, if named { tag } else { 0 })
     }
+}
+
+/// The bytes of all items, their lengths in the shortest form.
+fn items_size(rows: &[Row]) -> usize {
+    let sizes = rows
+        .iter()
+        .map(|row| tag_size(row.tag) + length_size(row.length) + row.length);
+    sizes.sum()
 }

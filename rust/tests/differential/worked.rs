@@ -3,12 +3,13 @@
 use oysterknoll::LONGEST_LISTING;
 
 use crate::bench::must_hold;
-use crate::catalogue::ALL;
-use crate::compare::Comparer;
+use crate::catalogue::{ALL, SMALLEST};
+use crate::compare::{Comparer, LAST_REFUSAL};
 use crate::conversions::scaled;
 use crate::make::repair_checksum;
 use crate::twin::{Twin, CARRIED, MARK, READING, TEXT};
 use crate::twin_records::Record;
+use crate::twin_write::Rows;
 use crate::wire::{length_at, put_length, put_tag, tag_at, KEY, MOST_BYTES};
 
 const TO_HOUSE: [(u64, u64, i64); 12] = [
@@ -109,7 +110,8 @@ fn refusal_with(tag: u64, value: &[u8], times: usize) -> usize {
 /// The number of the refusal that came, 0 if none did.
 fn the_refusal(comparer: &Comparer) -> usize {
     let refusals = comparer.tally.refusals;
-    (1..22).find(|&number| refusals[number] > 0).unwrap_or(0)
+    let came = (1..=LAST_REFUSAL).find(|&number| refusals[number] > 0);
+    came.unwrap_or(0)
 }
 
 #[test]
@@ -121,6 +123,48 @@ fn worked_limits() {
     assert_eq!(refusal_with(40, &[], 126), 6);
     assert_eq!(refusal_with(63, &[8], 1), 0);
     assert_eq!(refusal_with(63, &[9], 1), 14);
+}
+
+/// A carried item sets no bit, whether the catalogue has it or not.
+#[test]
+fn worked_words() {
+    let mut items = worked_items();
+    items.extend([(23, vec![0; 4]), (40, vec![7]), (128 + 24, vec![7])]);
+    let packet = packet_of(&items);
+    let centre = 1 << 23;
+    for (set, words) in [(ALL, SMALLEST | centre), (ALL & !centre, SMALLEST)] {
+        let rows = Twin::TRUE.read(&packet, set, None);
+        assert_eq!(rows.map(|rows| Twin::TRUE.words_of(&rows)), Ok(words));
+        must_hold(Comparer::new(Twin::TRUE).check(&packet, set));
+    }
+}
+
+/// The refusal's number of the worked packet's rows with item 23 so many times, the writer being handed these words.
+fn refusal_handed(words: u128, times: usize) -> usize {
+    let mut rows = vec![[2, READING, 1, 8], [65, READING, 17, 1]];
+    rows.resize(2 + times, [23, READING, 0, 4]);
+    rows.push([1, READING, 0, 2]);
+    let lent = Rows {
+        words: rows.as_flattened(),
+        count: rows.len(),
+        buffer: &[],
+        set: ALL,
+    };
+    let mut comparer = Comparer::new(Twin::TRUE);
+    must_hold(comparer.write_with(lent, words, |needed| needed));
+    the_refusal(&comparer)
+}
+
+/// Words with a bit too many or too few disagree; those of a tag that stands twice are its bit set once.
+#[test]
+fn worked_words_handed() {
+    let centre = 1 << 23;
+    for (times, bit, refusal) in [(0, 0, 0), (1, centre, 0), (2, centre, 13)] {
+        assert_eq!(refusal_handed(SMALLEST | bit, times), refusal);
+        for wrong in [centre, 1, 1 << 40, 1 << 65, 1 << 127] {
+            assert_eq!(refusal_handed((SMALLEST | bit) ^ wrong, times), 22);
+        }
+    }
 }
 
 fn number(tag: u64, kind: u64, code: u64) -> Record<'static> {

@@ -46,7 +46,9 @@ returns : tie.Need-returns
 returns c =
     let k = c .before .before .before .before .before in
     let fits = c .before .before .at-a-glance .ensures (c .if3 .taken) in
-    sym (rows-good _ (words k) _ _ _ (set-good (k .before .before)) (count-fits k) (fits .good) ∙ fits .fits)
+    let a = k .before .before .before .before .before .before .args in
+    sym (rows-good (a .known) (words k) (a .buffer .now) (a .words .now) (a .count) (a .handed) (set-good (k .before .before)) (count-fits k) (fits .good)
+    ∙ fits .fits)
 
 rows-right-requires : tie.Need-rows-right-requires
 rows-right-requires c κs = search needs
@@ -57,8 +59,8 @@ enum-known-refusal c = search needs
 enum-told : tie.Need-enum-told
 enum-told c = search needs
 
-sized-requires : tie.Need-sized-requires
-sized-requires c κs =
+told-requires : tie.Need-told-requires
+told-requires c κs =
     let column = c .before .before .before .before .before .before .before .before in
     (column .before .shapes .ensures, count-good _ _ (count-fits (column .before .before)) .0)
 
@@ -66,16 +68,18 @@ returns-2 : tie.Need-returns-2
 returns-2 c =
     let f = c .before .before .before in
     let k = f .before .before .before .before .before .before .before in
-    sym (rows-bad _ (words k) _ _ _ (set-good (k .before .before)) (count-fits k) _ _ _ (sym (f .rows-right .ensures)
-    ∙ ap rightSaid (c .before .refusal .given .1)))
+    let a = k .before .before .before .before .before .before .args in
+    sym (rows-bad (a .known) (words k) (a .buffer .now) (a .words .now) (a .count) (a .handed) (set-good (k .before .before)) (count-fits k) _ _ _
+    (sym (f .rows-right .ensures) ∙ ap rightSaid (c .before .refusal .given .1)))
 
 returns-3 : tie.Need-returns-3
 returns-3 c =
     let f = c .before .before .before .before in
     let k = f .before .before .before .before .before .before .before in
-    c .sized .ensures
-    ∙ sym (rows-good _ (words k) _ _ _ (set-good (k .before .before)) (count-fits k) (sym (f .rows-right .ensures)
-    ∙ ap rightSaid (c .before .before .enum-told .given .1)))
+    let a = k .before .before .before .before .before .before .args in
+    c .told .ensures
+    ∙ sym (rows-good (a .known) (words k) (a .buffer .now) (a .words .now) (a .count) (a .handed) (set-good (k .before .before)) (count-fits k)
+    (sym (f .rows-right .ensures) ∙ ap rightSaid (c .before .before .enum-told .given .1)))
 
 refused-requires : tie.Need-refused-requires
 refused-requires c κs = search needs
@@ -83,13 +87,20 @@ refused-requires c κs = search needs
 returns-4 : tie.Need-returns-4
 returns-4 c =
     let k = c .before in
-    c .refused .ensures ∙ sym (too-many _ _ _ _ (set-good (k .before .before)) (sym (k .before .is-good-count .ensures) ∙ k .if2 .left))
+    let a = k .before .before .before .before .before .before .args in
+    c .refused .ensures
+    ∙ sym (too-many (a .known) (a .handed) (a .count) (a .words .now) (a .buffer .now) (set-good (k .before .before)) (sym (k .before .is-good-count .ensures)
+    ∙ k .if2 .left))
 
 refused-requires-2 : tie.Need-refused-requires-2
 refused-requires-2 c κs = search needs
 
 returns-5 : tie.Need-returns-5
-returns-5 c = c .refused2 .ensures ∙ sym (not-good _ _ _ _ (sym (c .before .before .is-good .ensures) ∙ c .before .if1 .left))
+returns-5 c =
+    let k = c .before in
+    let a = k .before .before .before .before .args in
+    c .refused2 .ensures
+    ∙ sym (not-good (a .known) (a .handed) (a .count) (a .words .now) (a .buffer .now) (sym (k .before .is-good .ensures) ∙ k .if1 .left))
 
 pub check-rows-spec : {M : Type 1} → statement M
 check-rows-spec =
@@ -103,7 +114,7 @@ check-rows-spec =
     rows-right-requires
     enum-known-refusal
     enum-told
-    sized-requires
+    told-requires
     returns-2
     returns-3
     refused-requires

@@ -7,7 +7,8 @@ use Prim.Native.Nat.{_-_}
 use mathlib.Core.Path.{_≡_, sym, ap, _∙_}
 use Rattle.packet.specs.Said.{faultSaid}
 use Rattle.packet.specs.Rows.{rowsIn}
-use Rattle.outgoing.specs.code.Staged.{rowsJudged, noTags}
+use Rattle.tagset.specs.Sets.{noTags}
+use Rattle.outgoing.specs.code.Staged.{rowsJudged}
 use Rattle.outgoing.proofs.Walked.{judged-more, judged-wrong, judged-end}
 use Rattle.outgoing.proofs.judged.Statement.{statement}
 use Rattle.outgoing.proofs.judged.Tie as tie

@@ -5,18 +5,20 @@ use mathlib.Core.Path.{_≡_}
 use mathlib.Core.Bool.{true, false, cond}
 use mathlib.Core.List.{List}
 use Rattle.refusal.specs.Answer.{given, refused}
-use Rattle.tagset.specs.Sets.{holds}
+use Rattle.tagset.specs.Sets.{noTags, holds, meet}
 use Rattle.tagset.specs.declared.TagSet.{TagSet}
 use Rattle.catalogue.specs.declared.Shape.{Shape}
 use Rattle.rows.specs.Meaning.{shapeFor}
 use Rattle.rows.specs.declared.RowWords.{RowWords}
 use Rattle.rows.specs.Taken.{partLength, rowGood}
+use Rattle.rows.specs.Present.{presentIn}
 use Rattle.packet.specs.Judge.{clean, faultBy}
 use Rattle.packet.specs.Ends.{rightEnds}
 use Rattle.packet.specs.Rows.{rowsIn}
 use Rattle.outgoing.specs.Outgoing.{rightRows, rightSize}
-use Rattle.outgoing.specs.code.Staged.{rowSize, rowsSize, packedBy, rowFault, noTags, rowsJudged, endsIn, sizedIn}
+use Rattle.outgoing.specs.code.Staged.{rowSize, rowsSize, packedBy, rowFault, rowsJudged, endsIn, toldIn}
 use Rattle.outgoing.specs.declared.Packed.{Packed}
+use Rattle.outgoing.specs.declared.Handed.{Handed}
 
 -- a known row by its shape, the first of its tag: how many bytes its item has
 pub record PlainAs (shape : Shape) (room : ℕ) (r : RowWords) (bytes : ℕ) : Type 0 where
@@ -30,10 +32,11 @@ pub record Plain (K seen : TagSet) (room : ℕ) (r : RowWords) (bytes : ℕ) : T
   pub right : rowFault K seen r ≡ clean
   pub size : bytes ≡ rowSize r
 
--- all rows: the tags seen, and how many bytes their items have
+-- all rows: the tags seen, of which the known ones are the rows' words, and how many bytes their items have
 pub record PlainRows (K : TagSet) (room : ℕ) (rs : List RowWords) (seen : TagSet) (items : ℕ) : Type 0 where
   pub good : rightRows (holds K) room 0 rs ≡ given tt
   pub right : rowsJudged K noTags 0 rs ≡ cond (holds seen 65) (given tt) (refused 15 0 0)
+  pub words : presentIn rs ≡ meet seen K
   pub size : items ≡ rowsSize rs
 
 -- the total size, the first and the last row
@@ -43,6 +46,6 @@ pub record PlainEnds (count : ℕ) (words : List ℕ) (items : ℕ) (p : Packed)
   pub packed : p ≡ packedBy items
 
 -- the whole
-pub record FitsPlainly (K : TagSet) (room count : ℕ) (words : List ℕ) (p : Packed) : Type 0 where
+pub record FitsPlainly (K : TagSet) (h : Handed) (room count : ℕ) (words : List ℕ) (p : Packed) : Type 0 where
   pub good : rightRows (holds K) room 0 (rowsIn 0 count words) ≡ given tt
-  pub fits : sizedIn K count words ≡ given p
+  pub fits : toldIn K h count words ≡ given p

@@ -7,7 +7,7 @@ use lib.ListN.{length}
 use lib.Dec.{eqb}
 use Rattle.refusal.specs.Answer.{Answer, given, refused, then}
 use Rattle.ber.specs.Written.{tagBytes, lengthBytes}
-use Rattle.tagset.specs.Sets.{holds, withTag}
+use Rattle.tagset.specs.Sets.{noTags, holds, withTag}
 use Rattle.tagset.specs.declared.TagSet.{TagSet}
 use Rattle.rows.specs.declared.RowWords.{RowWords}
 use Rattle.rows.specs.Taken.{partLength, rowAt}
@@ -15,8 +15,9 @@ use Rattle.packet.specs.Judge.{Fault, clean, wrong, faultBy, looked}
 use Rattle.packet.specs.Ends.{rightEnds}
 use Rattle.packet.specs.declared.Ends.{Ends}
 use Rattle.packet.specs.Rows.{rowsIn}
-use Rattle.outgoing.specs.Outgoing.{rightSize}
+use Rattle.outgoing.specs.Outgoing.{rightWords, rightSize}
 use Rattle.outgoing.specs.declared.Packed.{Packed}
+use Rattle.outgoing.specs.declared.Handed.{Handed}
 
 -- how many bytes a row's item has: tag, length in its shortest form, value
 abbrev pub rowSize : RowWords → ℕ
@@ -37,9 +38,6 @@ rowFault K seen r = cond (holds K (r .tag)) (faultBy (looked (r .tag) (partLengt
 abbrev pub unlessFaulty : Fault → ℕ → ℕ → Answer (Unit {0}) → Answer (Unit {0})
 unlessFaulty clean k t otherwise = otherwise
 unlessFaulty (wrong n) k t otherwise = refused n k t
-
-abbrev pub noTags : TagSet
-noTags = record { low = 0; high = 0 }
 
 -- 12 to 15, for rows numbered from k on
 unfoldable pub rowsJudged : TagSet → TagSet → ℕ → List RowWords → Answer (Unit {0})
@@ -66,3 +64,7 @@ sizedBy K count words packed = then (rightSize (packed .size)) (λ _. closedIn K
 
 abbrev pub sizedIn : TagSet → ℕ → List ℕ → Answer Packed
 sizedIn K count words = sizedBy K count words (packedBy (rowsSize (rowsIn 0 count words)))
+
+-- and 22 before that
+abbrev pub toldIn : TagSet → Handed → ℕ → List ℕ → Answer Packed
+toldIn K h count words = then (rightWords h (rowsIn 0 count words)) (λ _. sizedIn K count words)

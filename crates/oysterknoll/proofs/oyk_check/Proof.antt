@@ -2,6 +2,7 @@
 -- Assumes nothing.
 use mathlib.Core.Path.{ap, _∙_}
 use borrow.Author.Needs.{needs}
+use Rattle.tagset.specs.Sets.{noTags}
 use Rattle.packet.specs.Said.{checkSaid}
 use Rattle.oysterknoll.specs.Answers.{counting, itemsAnswer}
 use Rattle.oysterknoll.proofs.Said.{said}
@@ -22,11 +23,11 @@ enum-known-accepted c = search needs
 
 returns : tie.Need-returns
 returns c =
-    ap (λ x. counting x 0) (c .refused .ensures)
+    ap (λ x. counting x 0 noTags) (c .refused .ensures)
     ∙ said itemsAnswer checkSaid (c .before .before .cause .given .1) (c .before .before .before .before .check .ensures)
 
 returns-2 : tie.Need-returns-2
-returns-2 c = said itemsAnswer checkSaid (c .before .accepted .given .1) (c .before .before .before .check .ensures)
+returns-2 c = said itemsAnswer checkSaid (c .before .before .accepted .given .1) (c .before .before .before .before .check .ensures)
 
 pub oyk-check-spec : {M : Type 1} → statement M
 oyk-check-spec = tie.close (tie.spec check-requires enum-known-cause refused-requires enum-known-accepted returns returns-2)

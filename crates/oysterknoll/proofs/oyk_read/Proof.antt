@@ -2,6 +2,7 @@
 -- Assumes nothing.
 use mathlib.Core.Path.{ap, _∙_}
 use borrow.Author.Needs.{needs}
+use Rattle.tagset.specs.Sets.{noTags}
 use Rattle.reader.specs.Reads.{readSaid}
 use Rattle.oysterknoll.specs.Answers.{counting, rowsAnswer}
 use Rattle.oysterknoll.proofs.Said.{said}
@@ -25,7 +26,7 @@ same-length c = search needs
 
 returns : tie.Need-returns
 returns c = (
-  ap (λ x. counting x 0) (c .refused .ensures)
+  ap (λ x. counting x 0 noTags) (c .refused .ensures)
       ∙ said rowsAnswer readSaid (c .before .before .cause .given .1) (c .before .before .before .before .before .before .read .ensures .answer),
   c .before .before .before .before .before .before .read .ensures .table,
 )
@@ -35,8 +36,8 @@ same-length-2 c = search needs
 
 returns-2 : tie.Need-returns-2
 returns-2 c = (
-  said rowsAnswer readSaid (c .before .filled .given .1) (c .before .before .before .before .before .read .ensures .answer),
-  c .before .before .before .before .before .read .ensures .table,
+  said rowsAnswer readSaid (c .before .before .filled .given .1) (c .before .before .before .before .before .before .read .ensures .answer),
+  c .before .before .before .before .before .before .read .ensures .table,
 )
 
 pub oyk-read-spec : {M : Type 1} → statement M

@@ -11,27 +11,36 @@ use borrow.Author.Needs.{needs}
 use Rattle.packet.proofs.check_from.Statement.{statement}
 use Rattle.packet.proofs.check_from.Tie as tie
 
-words : (c : tie.After-pass) → Words (c .before .before .before .args .known)
-words c = record { low64 = omega (arith, c .before .before .before .good); high64 = omega (arith, c .before .before .before .good) }
+words : (c : tie.After-pass) → Words (c .before .before .before .before .args .known)
+words c = record { low64 = omega (arith, c .before .before .before .before .good); high64 = omega (arith, c .before .before .before .before .good) }
 
-bytes : (c : tie.After-pass) → Bytes (c .before .before .before .args .packet .now)
-bytes c = record { byte = λ i. c .before .before .shared-slice-known .given i .fits }
+bytes : (c : tie.After-pass) → Bytes (c .before .before .before .before .args .packet .now)
+bytes c = record { byte = λ i. c .before .before .before .shared-slice-known .given i .fits }
 
 pass-requires : tie.Need-pass-requires
-pass-requires c κs =
-    let k = c .before .before .pre in (k .some, k .short, k .inside)
+pass-requires c κs = search needs
+
+array-read-t16 : tie.Need-array-read-t16
+array-read-t16 c = search needs
+
+array-read-t19 : tie.Need-array-read-t19
+array-read-t19 c = search needs
 
 stopped-requires : tie.Need-stopped-requires
 stopped-requires c κs = c .before .pass .ensures .stops (c .if1 .taken)
 
 returns : tie.Need-returns
-returns c = record {
-  says = sym (passes-refused _ _ _ _ (c .before .before .before .before .before .pre) _ _ (c .before .before .pass .ensures) _ _ _ (c .stopped .ensures));
-  places = λ a f. not-given f;
-}
+returns c =
+    let p = c .before .before in
+    record {
+      says = sym (passes-refused _ _ _ _ (p .before .before .before .before .pre) _ _ _ (p .pass .ensures) _ _ _ (c .stopped .ensures));
+      places = λ a f. not-given f;
+    }
 
 concluded-requires : tie.Need-concluded-requires
-concluded-requires c κs = passes-whole _ _ _ _ (c .before .before .before .before .before .pre) _ _ (c .before .before .pass .ensures) (c .before .if1 .left)
+concluded-requires c κs =
+    let p = c .before .before in
+    passes-whole _ _ _ _ (p .before .before .before .before .pre) _ _ _ (p .pass .ensures) (c .before .if1 .left)
 
 enum-known-refusal : tie.Need-enum-known-refusal
 enum-known-refusal c = search needs
@@ -42,20 +51,20 @@ enum-told c = search needs
 returns-2 : tie.Need-returns-2
 returns-2 c =
     let p = c .before .before .before .before .before .before in
-    let w = passes-whole _ _ _ _ (p .before .before .before .pre) _ _ (p .pass .ensures) (c .before .before .before .before .before .if1 .left) in
+    let w = passes-whole _ _ _ _ (p .before .before .before .before .pre) _ _ _ (p .pass .ensures) (c .before .before .before .before .before .if1 .left) in
     let e = sym (c .before .before .before .concluded .ensures) ∙ ap rightSaid (c .before .refusal .given .1) in
     record {
-      says = sym (right-refused _ (words p) _ (bytes p) _ _ _ w _ _ _ e);
+      says = sym (right-refused _ (words p) _ (bytes p) _ _ _ _ w _ _ _ e);
       places = λ a f. not-given f;
     }
 
 returns-3 : tie.Need-returns-3
 returns-3 c =
     let p = c .before .before .before .before .before in
-    let w = passes-whole _ _ _ _ (p .before .before .before .pre) _ _ (p .pass .ensures) (c .before .before .before .before .if1 .left) in
+    let w = passes-whole _ _ _ _ (p .before .before .before .before .pre) _ _ _ (p .pass .ensures) (c .before .before .before .before .if1 .left) in
     record {
-      says = sym (right-given _ (words p) _ (bytes p) _ _ _ w (sym (c .before .before .concluded .ensures) ∙ ap rightSaid (c .enum-told .given .1)));
-      places = λ a f. past-items _ (words p) _ (bytes p) _ _ _ w;
+      says = sym (right-given _ (words p) _ (bytes p) _ _ _ _ w (sym (c .before .before .concluded .ensures) ∙ ap rightSaid (c .enum-told .given .1)));
+      places = λ a f. past-items _ (words p) _ (bytes p) _ _ _ _ w;
     }
 
 pub check-from-spec : {M : Type 1} → statement M
@@ -63,6 +72,8 @@ check-from-spec =
     tie.close
     (tie.spec
     pass-requires
+    array-read-t16
+    array-read-t19
     stopped-requires
     returns
     concluded-requires

@@ -8,15 +8,6 @@ use borrow.Author.Needs.{needs}
 use Rattle.packet.proofs.glance_at.Statement.{statement}
 use Rattle.packet.proofs.glance_at.Tie as tie
 
-sub-if1 : tie.Need-sub-if1
-sub-if1 c = search needs
-
-any-glance-at-requires : tie.Need-any-glance-at-requires
-any-glance-at-requires c κs = search needs
-
-returns : tie.Need-returns
-returns c = search needs
-
 add-after : tie.Need-add-after
 add-after c = search needs
 
@@ -24,19 +15,25 @@ shared-slice-read-tag : tie.Need-shared-slice-read-tag
 shared-slice-read-tag c = search needs
 
 cast-tag : tie.Need-cast-tag
-cast-tag c = omega (arith, c .shared-slice-known2 .given (c .before .before .before .args .at) .fits)
+cast-tag c = omega (arith, c .shared-slice-known2 .given (c .before .before .args .at) .fits)
 
 shared-slice-read-size : tie.Need-shared-slice-read-size
 shared-slice-read-size c = search needs
 
 cast-size : tie.Need-cast-size
-cast-size c = omega (arith, c .shared-slice-known3 .given (c .before .before .before .before .args .at + 1) .fits)
+cast-size c = omega (arith, c .shared-slice-known3 .given (c .before .before .before .args .at + 1) .fits)
 
-shared-slice-read-if2 : tie.Need-shared-slice-read-if2
-shared-slice-read-if2 c = search needs
+shared-slice-read-if1 : tie.Need-shared-slice-read-if1
+shared-slice-read-if1 c = search needs
 
-shared-slice-read-if2-2 : tie.Need-shared-slice-read-if2-2
-shared-slice-read-if2-2 c = search needs
+shared-slice-read-if1-2 : tie.Need-shared-slice-read-if1-2
+shared-slice-read-if1-2 c = search needs
+
+any-glance-at-requires : tie.Need-any-glance-at-requires
+any-glance-at-requires c κs = search needs
+
+returns : tie.Need-returns
+returns c = search needs
 
 any-glance-at-requires-2 : tie.Need-any-glance-at-requires-2
 any-glance-at-requires-2 c κs = search needs
@@ -44,44 +41,34 @@ any-glance-at-requires-2 c κs = search needs
 returns-2 : tie.Need-returns-2
 returns-2 c = search needs
 
-any-glance-at-requires-3 : tie.Need-any-glance-at-requires-3
-any-glance-at-requires-3 c κs = search needs
+add-t14 : tie.Need-add-t14
+add-t14 c = search needs
+
+add-t15 : tie.Need-add-t15
+add-t15 c =
+    let a = c .before .before .before .before .before .before .before .args in
+    omega (arith, or-right (getD (a .packet .now) (a .at) 0) (getD (a .packet .now) (a .at + 1) 0) (c .before .if1 .left))
 
 returns-3 : tie.Need-returns-3
-returns-3 c = search needs
-
-add-t6 : tie.Need-add-t6
-add-t6 c = search needs
-
-add-t7 : tie.Need-add-t7
-add-t7 c =
-    let a = c .before .before .before .before .before .before .before .before .args in
-    omega (arith, or-right (getD (a .packet .now) (a .at) 0) (getD (a .packet .now) (a .at + 1) 0) (c .before .if2 .left))
-
-returns-4 : tie.Need-returns-4
-returns-4 c =
-    let f = c .before .before .before .before .before .before in
-    glance-short _ _ (f .if1 .left) (f .before .before .pre) (c .if3 .left) (c .before .if2 .left)
+returns-3 c =
+    glance-short _ _ (c .before .before .before .before .before .before .before .pre) (c .if2 .left) (c .before .if1 .left)
     (record { byte = λ i. c .before .before .before .shared-slice-known4 .given i .fits })
 
 pub glance-at-spec : {M : Type 1} → statement M
 glance-at-spec =
     tie.close
     (tie.spec
-    sub-if1
-    any-glance-at-requires
-    returns
     add-after
     shared-slice-read-tag
     cast-tag
     shared-slice-read-size
     cast-size
-    shared-slice-read-if2
-    shared-slice-read-if2-2
+    shared-slice-read-if1
+    shared-slice-read-if1-2
+    any-glance-at-requires
+    returns
     any-glance-at-requires-2
     returns-2
-    any-glance-at-requires-3
-    returns-3
-    add-t6
-    add-t7
-    returns-4)
+    add-t14
+    add-t15
+    returns-3)

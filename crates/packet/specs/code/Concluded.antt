@@ -8,7 +8,7 @@ use lib.ListN.{length, take, drop, getD}
 use Rattle.refusal.specs.Answer.{Answer, given, refused, refusal, map, then, orElse}
 use Rattle.number.specs.Stored.{valueOf}
 use Rattle.checksum.specs.Sum.{checksumOf}
-use Rattle.tagset.specs.Sets.{holds}
+use Rattle.tagset.specs.Sets.{noTags, holds, size}
 use Rattle.tagset.specs.declared.TagSet.{TagSet}
 use Rattle.knowing.specs.Good.{good}
 use Rattle.catalogue.specs.Shapes.{codeAllowed}
@@ -74,20 +74,22 @@ judgedFrom K p from = bare (judged (holds K) (itemsAt p from))
 abbrev pub codedIn : TagSet → List ℕ → List ℕ → ℕ → Bool
 codedIn K p past t = cond (ltb 0 (getD past t 0)) (cond (holds K t) (codeAllowed t 1 (getD p (getD past t 0 - 1) 0)) true) true
 
-unfoldable pub cleanIn : TagSet → List ℕ → List ℕ → Bool → Bool
-cleanIn K p past wrong = not wrong && (not (eqb (getD past 65 0) 0) && (codedIn K p past 34 && codedIn K p past 63))
+-- as many tags noted as known items passed: each is fit and stands once
+unfoldable pub cleanIn : TagSet → List ℕ → List ℕ → TagSet → ℕ → Bool
+cleanIn K p past present known =
+    eqb (size present) known && (not (eqb (getD past 65 0) 0) && (codedIn K p past 34 && codedIn K p past 63))
 
 -- all places lie in a packet of so many bytes
 pub record PastIn (bytes : ℕ) (past : List ℕ) : Type 0 where
   pub inside : (t : ℕ) → getD past t 0 ≤ bytes
 
 -- a walk that has come to the packet's end
-pub record Whole (K : TagSet) (p : List ℕ) (from : ℕ) (r : Passed) (past : List ℕ) : Type 0 where
+pub record Whole (K : TagSet) (p : List ℕ) (from : ℕ) (r : Passed) (past : List ℕ) (present : TagSet) : Type 0 where
   pub known : good K ≡ true
   pub inside : from ≤ length p
   pub items : List Item
   pub walked : walk 128 from (drop from p) ≡ given items
-  pub keeps : keptFrom K (freshAt from noPast) items ≡ record { passed = r; past = past }
+  pub keeps : keptFrom K (freshAt from noPast noTags) items ≡ record { passed = r; past = past; present = present }
 
 -- a packet of a right frame, whose items begin at a place; nothing is kept of them yet
 pub record Begins (K : TagSet) (p : List ℕ) (from : ℕ) (past : List ℕ) : Type 0 where
@@ -99,5 +101,5 @@ pub record Begins (K : TagSet) (p : List ℕ) (from : ℕ) (past : List ℕ) : T
 
 -- the answer by the items, and the places past them where they are accepted
 pub record ChecksFrom (K : TagSet) (p : List ℕ) (from : ℕ) (r : Checked) (past : List ℕ) : Type 0 where
-  pub says : checkSaid r ≡ map bodyOf (then (walk 128 from (drop from p)) (λ is. then (closed p is) (judged (holds K))))
+  pub says : checkSaid r ≡ map (bodyOf (holds K)) (then (walk 128 from (drop from p)) (λ is. then (closed p is) (judged (holds K))))
   pub places : (a : Accepted) → checkSaid r ≡ given a → past ≡ pastFrom noPast (itemsAt p from)

@@ -2,13 +2,13 @@
 -- the items that it has passed, one after another from the left.
 use Prim.Native.Nat.{ℕ, _+_, _-_, _^_, _<_, _≤_}
 use mathlib.Core.Path.{_≡_}
-use mathlib.Core.Bool.{Bool, false, not, _&&_, _||_}
+use mathlib.Core.Bool.{Bool, not, cond, _&&_}
 use mathlib.Core.List.{List, [], _∷_}
 use lib.Dec.{eqb}
 use lib.ListN.{length, drop, getD, set}
 use Rattle.refusal.specs.Answer.{Answer, given, refused, map}
 use Rattle.ber.specs.Written.{tagBytes, lengthBytes}
-use Rattle.tagset.specs.Sets.{holds}
+use Rattle.tagset.specs.Sets.{knowing, holds, withTag}
 use Rattle.tagset.specs.declared.TagSet.{TagSet}
 use Rattle.catalogue.specs.code.Column.{shapeColumn, widthIn}
 use Rattle.packet.specs.Pieces.{Item, walk}
@@ -26,10 +26,14 @@ shortest h = length (tagBytes (h .tag)) + length (lengthBytes (h .size))
 abbrev pub longerIn : Header → ℕ
 longerIn h = h .place - h .start - length (tagBytes (h .tag)) - length (lengthBytes (h .size))
 
--- two words of 64 bits
+-- two words of 64 bits side by side, as a set
 pub record TwoWords (l : List ℕ) : Type 0 where
+  pub both : length l ≡ 2
   pub low : getD l 0 0 < 2 ^ 64
   pub high : getD l 1 0 < 2 ^ 64
+
+abbrev pub setOf : List ℕ → TagSet
+setOf l = knowing (getD l 0 0) (getD l 1 0)
 
 -- an item at a glance
 abbrev pub glanceOf : Header → Glance
@@ -52,17 +56,30 @@ pub record Glances (p : List ℕ) (at : ℕ) (g : Glance) : Type 0 where
   pub item : g .past ≤ length p → SeenAt p at g
   pub none : length p < g .past → NoItem p at
 
--- a known item looks wrong: of another length than its width, or an empty text, or met before
-abbrev pub unfit : ℕ → ℕ → Bool
-unfit width size = not (eqb size width) && not (eqb width 0) || eqb size width && eqb width 0
+-- an item is fit: a text that is not empty, or of the width of its tag
+abbrev pub fit : ℕ → ℕ → Bool
+fit width size = cond (eqb width 0) (not (eqb size 0)) (eqb size width)
 
-unfoldable pub looksWrong : TagSet → List ℕ → Glance → Bool
-looksWrong K past g = holds K (g .tag) && (unfit (widthIn shapeColumn (g .tag)) (g .size) || not (eqb (getD past (g .tag) 0) 0))
+unfoldable pub fitAt : Glance → Bool
+fitAt g = fit (widthIn shapeColumn (g .tag)) (g .size)
 
--- what is kept, with the places past the items
+-- a known tag is counted, and noted where its item is fit
+abbrev pub counted : TagSet → ℕ → ℕ
+counted K t = cond (holds K t) 1 0
+
+abbrev pub noted : TagSet → TagSet → ℕ → Bool → TagSet
+noted K s t fits = cond (holds K t && fits) (withTag s t) s
+
+pub record Notes (words before : List ℕ) (t : ℕ) (fits : Bool) (r : ℕ) (after : List ℕ) : Type 0 where
+  pub count : r ≡ counted (setOf words) t
+  pub two : TwoWords after
+  pub set : setOf after ≡ noted (setOf words) (setOf before) t fits
+
+-- what is kept, with the places past the items and the tags noted
 pub record Kept : Type 0 where
   pub passed : Passed
   pub past : List ℕ
+  pub present : TagSet
 
 abbrev pub withHeader : TagSet → Kept → Header → Kept
 withHeader K k h =
@@ -72,9 +89,10 @@ withHeader K k h =
         count = k .passed .count + 1;
         last = h .start;
         longer = k .passed .longer + longerIn h;
-        wrong = k .passed .wrong || looksWrong K (k .past) (glanceOf h);
+        known = k .passed .known + counted K (oneByte (h .tag));
       };
       past = set (k .past) (oneByte (h .tag)) (h .place + h .size);
+      present = noted K (k .present) (oneByte (h .tag)) (fitAt (glanceOf h));
     }
 
 unfoldable pub keptFrom : TagSet → Kept → List Item → Kept
@@ -84,8 +102,8 @@ keptFrom K k (i ∷ is) = keptFrom K (withHeader K k (headerOf i)) is
 abbrev pub kept : TagSet → Kept → Answer (List Item) → Answer Kept
 kept K k = map (keptFrom K k)
 
-abbrev pub freshAt : ℕ → List ℕ → Kept
-freshAt from past = record { passed = record { here = from; count = 0; last = from; longer = 0; wrong = false }; past = past }
+abbrev pub freshAt : ℕ → List ℕ → TagSet → Kept
+freshAt from past present = record { passed = record { here = from; count = 0; last = from; longer = 0; known = 0 }; past = past; present = present }
 
 -- a walk stops before the packet's end: at too many items, or where there is none
 pub record Stops (p : List ℕ) (here count : ℕ) : Type 0 where
@@ -94,8 +112,8 @@ pub record Stops (p : List ℕ) (here count : ℕ) : Type 0 where
   pub none : (count ≡ 128 → ⊥) → NoItem p here
 
 -- where a walk from a place has come to: what is kept with the items ahead is what is kept of all
-pub record Passes (K : TagSet) (p : List ℕ) (from : ℕ) (before : List ℕ) (r : Passed) (past : List ℕ) : Type 0 where
+pub record Passes (K : TagSet) (p : List ℕ) (from : ℕ) (before : List ℕ) (none : TagSet) (r : Passed) (past : List ℕ) (present : TagSet) : Type 0 where
   pub few : r .count ≤ 128
-  pub goes : kept K (record { passed = r; past = past }) (walk (128 - r .count) (r .here) (drop (r .here) p))
-      ≡ kept K (freshAt from before) (walk 128 from (drop from p))
+  pub goes : kept K (record { passed = r; past = past; present = present }) (walk (128 - r .count) (r .here) (drop (r .here) p))
+      ≡ kept K (freshAt from before none) (walk 128 from (drop from p))
   pub stops : r .here < length p → Stops p (r .here) (r .count)

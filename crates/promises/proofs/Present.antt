@@ -1,0 +1,108 @@
+-- W-201, over every outcome that the contracts allow: "The answer must equal that of a scan of all rows, for each of the tags, and the
+-- number of set bits must equal the number of rows that aren't carried. The writer, when handed these words, refuses words that a scan of
+-- its rows would not give."
+-- Assumes nothing.
+use Prim.Native.Nat.{ℕ, _≤_}
+use mathlib.Core.Path.{_≡_, ap, sym, _∙_}
+use mathlib.Core.List.{List}
+use lib.ListN.{length, take}
+use Rattle.refusal.specs.Answer.{given, map}
+use Rattle.refusal.proofs.Answers.{map-given, given-same, then-given}
+use Rattle.number.specs.Stored.{Bytes}
+use Rattle.tagset.specs.Sets.{holds, size}
+use Rattle.tagset.specs.declared.TagSet.{TagSet}
+use Rattle.rows.specs.Present.{presentIn, scanned, presentRows}
+use Rattle.packet.specs.Pieces.{Piece}
+use Rattle.packet.specs.Verdict.{bodyOf, received, checked}
+use Rattle.packet.specs.Said.{checkSaid}
+use Rattle.packet.specs.Rows.{Filled, rowsIn, rowsOf, SameTable}
+use Rattle.packet.specs.declared.Accepted.{Accepted}
+use Rattle.packet.specs.declared.Checked.the-variants as check
+use Rattle.laws.proofs.Tables.{HasRead, has-read, read-count, rows-in-table}
+use Rattle.laws.proofs.Counted.{accepted-scanned, accepted-counted}
+use Rattle.reader.specs.Reads.{Reads, readSaid}
+use Rattle.reader.specs.declared.Reading.{Reading}
+use Rattle.reader.specs.declared.Reading.the-variants as read
+use Rattle.outgoing.specs.declared.Handed.the-variants.{Words}
+use Rattle.outgoing.specs.Outgoing.{outgoing}
+use Rattle.outgoing.proofs.Present.{sent-scanned, sent-counted}
+use Rattle.writer.specs.Writes.{writtenWith, writtenBy, outputBy, written, roomy, writeAnswerWith, writeOutputWith, writeAnswer, writeOutput}
+use Rattle.writer.specs.Writes.{WritesWith, Writes}
+use Rattle.writer.specs.declared.Written.{Written}
+use Rattle.writer.specs.declared.Writing.the-variants as write
+use Rattle.writer.proofs.Handed.{handed-given}
+use Rattle.promises.proofs.Demands.{written-reads-back}
+
+-- a packet that was read: the words answer as a scan of the table's rows does, and have as many bits as rows are not carried
+module _ {K : TagSet} {p t t′ : List ℕ} {done : Filled} (c : Reads K p t (read.Rows done) t′) where
+  has : HasRead K p t done
+  has = has-read K p t done (sym (c .answer))
+
+  rows : rowsIn 0 (done .count) t′ ≡ rowsOf (holds K) (has .items)
+  rows = ap (rowsIn 0 (done .count)) (c .table ∙ has .table) ∙ rows-in-table (holds K) (has .items) t (done .count) (read-count has)
+
+  present : done .present ≡ presentIn (rowsOf (holds K) (has .items))
+  present = ap (λ f. f .present) (sym (has .filled))
+
+  pub read-words : done .present ≡ presentIn (rowsIn 0 (done .count) t′)
+  read-words = present ∙ ap presentIn (sym rows)
+
+  module _ (by : Bytes p) where
+    pub read-scanned : (tag : ℕ) → holds (done .present) tag ≡ scanned tag (rowsIn 0 (done .count) t′)
+    read-scanned tag =
+        ap (λ s. holds s tag) present ∙ (accepted-scanned (holds K) p (has .items) by (has .accepted) tag ∙ ap (scanned tag) (sym rows))
+
+    pub read-counted : size (done .present) ≡ presentRows (rowsIn 0 (done .count) t′)
+    read-counted = ap size present ∙ (accepted-counted (holds K) p (has .items) by (has .accepted) ∙ ap presentRows (sym rows))
+
+  -- and who only checks it has the same words
+  pub check-words : (b : Accepted) → checkSaid (check.Accepted b) ≡ checked K p → b .present ≡ done .present
+  unfolding checked received
+  check-words b e =
+      let f = map-given (bodyOf (holds K)) (received K p) (sym e) in
+      let same : f .0 ≡ has .items = given-same (sym (f .1) ∙ rw (has .right) (has .accepted)) in
+      ap (λ a. a .present) (sym (f .2)) ∙ (ap (λ is. presentIn (rowsOf (holds K) is)) same ∙ sym present)
+
+-- rows that were written with their words: the words are those that a scan gives, and it is what the plain writer would have written
+module _ {K s : TagSet} {count : ℕ} {words b o o′ : List ℕ} {w : Written} (c : WritesWith K (Words s) count words b o (write.Packet w) o′) where
+  record Handed : Type 0 where
+    cs : List Piece
+    plain : written K count words b (length o) ≡ given cs
+    with-words : writtenWith K (Words s) count words b (length o) ≡ given cs
+    size : writtenBy cs ≡ w
+    same : s ≡ presentIn (rowsIn 0 count words)
+
+  handed : Handed
+  unfolding writeAnswerWith
+  handed =
+      let f = map-given writtenBy (writtenWith K (Words s) count words b (length o)) (sym (c .answer)) in
+      let g = handed-given K count words b (length o) s (f .0) (f .1) in
+      record { cs = f .0; plain = g .0; with-words = f .1; size = f .2; same = g .1 }
+
+  pub written-words : s ≡ presentIn (rowsIn 0 count words)
+  written-words = handed .same
+
+  pub written-plainly : Writes K count words b o (write.Packet w) o′
+  unfolding writeAnswer writeOutput writeOutputWith
+  written-plainly =
+      record {
+        answer = sym (ap (map writtenBy) (handed .plain) ∙ ap given (handed .size));
+        output = c .output ∙ ap (outputBy o) (handed .with-words ∙ sym (handed .plain));
+      }
+
+  goes : (cs : List Piece) × (outgoing K count words b ≡ given cs)
+  unfolding written
+  goes = let g = then-given (outgoing K count words b) (roomy (length o)) (handed .plain) in (g .between, g .first)
+
+  pub written-scanned : (tag : ℕ) → holds s tag ≡ scanned tag (rowsIn 0 count words)
+  written-scanned tag = ap (λ x. holds x tag) written-words ∙ (sent-scanned K count words b (goes .0) (goes .1) tag)
+
+  pub written-counted : size s ≡ presentRows (rowsIn 0 count words)
+  written-counted = ap size written-words ∙ (sent-counted K count words b (goes .0) (goes .1))
+
+  -- so what was written with its words reads back with them
+  pub written-with-reads-back : {t t′ : List ℕ} {r : Reading} → 512 ≤ length t → Reads K (take (w .size) o′) t r t′
+      → (readSaid r ≡ given (record { count = count; present = s })) × SameTable b (take (w .size) o′) (rowsIn 0 count words) (rowsIn 0 count t′)
+  written-with-reads-back long d =
+      let s = written-reads-back written-plainly long d in
+      (s .0 ∙ ap (λ x. given (record { count = count; present = x })) (sym written-words), s .1)
