@@ -347,7 +347,7 @@ fn pass(
 {
     let column = catalogue::shapes();
     let words = [known.low, known.high];
-    let last = packet.len() - 1;
+    let last_byte = packet.len() - 1;
     let mut passed = Passed {
         here: from,
         count: 0,
@@ -355,7 +355,7 @@ fn pass(
         longer: 0,
         known: 0,
     };
-    while passed.here < last {
+    while passed.here < last_byte {
         let here = passed.here;
         let count = passed.count;
         if count == 128 {

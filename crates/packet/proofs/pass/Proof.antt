@@ -14,11 +14,11 @@ use Rattle.packet.proofs.pass.Statement.{statement}
 use Rattle.packet.proofs.pass.Tie as tie
 
 abbrev Inv-loop : tie.InvT-loop
-Inv-loop packet from past₀ present₀ column words last passed₀ past present passed =
+Inv-loop packet from past₀ present₀ column words last-byte passed₀ past present passed =
     Going (setOf words) packet from past₀ (setOf present₀) (record { passed = passed; past = past; present = setOf present }) × TwoWords present
 
 abbrev μ-loop : tie.MeasureT-loop
-μ-loop packet from past₀ present₀ column words last passed₀ past present passed = length packet - passed .here
+μ-loop packet from past₀ present₀ column words last-byte passed₀ past present passed = length packet - passed .here
 
 bytes : (c : tie.After-glance-at Inv-loop μ-loop) → Bytes (c .before .before .before .before .before .before .before .args .packet .now)
 bytes c = record { byte = λ i. c .before .before .before .before .before .before .shared-slice-known .given i .fits }
@@ -46,8 +46,8 @@ stepped c =
 shapes-requires : tie.Need-shapes-requires Inv-loop μ-loop
 shapes-requires c κs = search needs
 
-sub-last : tie.Need-sub-last Inv-loop μ-loop
-sub-last c = omega (arith, c .before .before .pre .0)
+sub-last-byte : tie.Need-sub-last-byte Inv-loop μ-loop
+sub-last-byte c = omega (arith, c .before .before .pre .0)
 
 loop-holds : tie.Need-loop-holds Inv-loop μ-loop
 loop-holds c = (going-begin _ _ _ _ _, c .before .before .pre .3)
@@ -143,7 +143,7 @@ pass-spec =
     Inv-loop
     μ-loop
     shapes-requires
-    sub-last
+    sub-last-byte
     loop-holds
     returns
     glance-at-requires
