@@ -65,34 +65,34 @@ module _ {K : TagSet} {p t t′ : List ℕ} {done : Filled} (c : Reads K p t (re
 
 -- rows that were written with their words: the words are those that a scan gives, and it is what the plain writer would have written
 module _ {K s : TagSet} {count : ℕ} {words b o o′ : List ℕ} {w : Written} (c : WritesWith K (Words s) count words b o (write.Packet w) o′) where
-  record Handed : Type 0 where
+  record Agreed : Type 0 where
     cs : List Piece
     plain : written K count words b (length o) ≡ given cs
     with-words : writtenWith K (Words s) count words b (length o) ≡ given cs
-    size : writtenBy cs ≡ w
+    bytes : writtenBy cs ≡ w
     same : s ≡ presentIn (rowsIn 0 count words)
 
-  handed : Handed
+  agreed : Agreed
   unfolding writeAnswerWith
-  handed =
+  agreed =
       let f = map-given writtenBy (writtenWith K (Words s) count words b (length o)) (sym (c .answer)) in
       let g = handed-given K count words b (length o) s (f .0) (f .1) in
-      record { cs = f .0; plain = g .0; with-words = f .1; size = f .2; same = g .1 }
+      record { cs = f .0; plain = g .0; with-words = f .1; bytes = f .2; same = g .1 }
 
   pub written-words : s ≡ presentIn (rowsIn 0 count words)
-  written-words = handed .same
+  written-words = agreed .same
 
   pub written-plainly : Writes K count words b o (write.Packet w) o′
   unfolding writeAnswer writeOutput writeOutputWith
   written-plainly =
       record {
-        answer = sym (ap (map writtenBy) (handed .plain) ∙ ap given (handed .size));
-        output = c .output ∙ ap (outputBy o) (handed .with-words ∙ sym (handed .plain));
+        answer = sym (ap (map writtenBy) (agreed .plain) ∙ ap given (agreed .bytes));
+        output = c .output ∙ ap (outputBy o) (agreed .with-words ∙ sym (agreed .plain));
       }
 
   goes : (cs : List Piece) × (outgoing K count words b ≡ given cs)
   unfolding written
-  goes = let g = then-given (outgoing K count words b) (roomy (length o)) (handed .plain) in (g .between, g .first)
+  goes = let g = then-given (outgoing K count words b) (roomy (length o)) (agreed .plain) in (g .between, g .first)
 
   pub written-scanned : (tag : ℕ) → holds s tag ≡ scanned tag (rowsIn 0 count words)
   written-scanned tag = ap (λ x. holds x tag) written-words ∙ (sent-scanned K count words b (goes .0) (goes .1) tag)
