@@ -3,15 +3,16 @@
 use Prim.Native.Nat.{ℕ, zero, suc, _+_, _-_, _*_, _/_, _%_, _^_, _<_, _≤_}
 use native.Mathlib.Omega.{arith}
 use native.Mathlib.Numerals.{add-one}
+use native.Mathlib.Nat.{mod-eq-of-lt}
 use mathlib.Core.Path.{_≡_, refl, ap, ap₂, sym, _∙_, subst, subst₂}
 use mathlib.Core.List.{List, [], _∷_, _++_, append-nil}
-use lib.ListN.{length, take, drop, length-take, length-append}
+use lib.ListN.{length, take, drop, getD, length-take, length-append}
 use lib.Seq.{take-at}
 use lib.Dec.{ltb, leb}
 use borrow.Author.Tests.{ltb-true, ltb-false, leb-false, lt-ltb, le-ltb, lt-leb}
 use Rattle.base.proofs.Cases.{byBool, byLt}
 use Rattle.number.specs.Stored.{Bytes, valueOf, bytesOf}
-use Rattle.number.proofs.Laws.{bytes-none, bytes-cons, bytes-tail, bytes-take, bytes-bytesOf, bytes-back, length-bytesOf, spelled, value-small}
+use Rattle.number.proofs.Laws.{bytes-none, bytes-cons, bytes-tail, bytes-take, bytes-bytesOf, bytes-back, length-bytesOf, spelled, value-small, value-ends}
 use Rattle.ber.specs.Read.{Read, got, broken, tagThird, tagSecond, readTag, readLength}
 use Rattle.ber.specs.Seen.{seen}
 use Rattle.ber.specs.declared.Field.{Field}
@@ -296,6 +297,14 @@ tag-bytes t some small =
 pub form-some : {x : ℕ} {f : List ℕ} → LengthForm x f → 0 < length f
 form-some (shortForm h) = omega arith
 form-some (longForm ds some few) = omega arith
+
+-- and ends with the length itself, where that is one of a byte
+pub form-ends : {x : ℕ} {f : List ℕ} → LengthForm x f → Bytes f → x < 256 → getD f (length f - 1) 0 ≡ x
+form-ends (shortForm h) by small = refl
+form-ends (longForm [] some few) by small = absurd (omega arith)
+form-ends (longForm (d ∷ ds) some few) by small =
+    let e : suc (suc (length ds)) - 1 ≡ suc (length ds) = omega arith in
+    ap (λ j. getD ((128 + suc (length ds)) ∷ d ∷ ds) j 0) e ∙ (sym (value-ends 0 d ds (bytes-tail by)) ∙ mod-eq-of-lt small)
 
 -- what an answer says tells any two answers apart
 pub seen-apart : (a b : Field) → seen a ≡ seen b → a ≡ b

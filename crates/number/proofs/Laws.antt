@@ -124,3 +124,9 @@ bytes-back n x h = value-bytes 0 n x ∙ rw (mod-eq-of-lt h) (omega arith)
 pub bits-bytes : (n : ℕ) → 2 ^ (8 * n) ≡ 256 ^ n
 bits-bytes zero = refl
 bits-bytes (suc n) = let e : 8 * suc n ≡ 8 * n + 8 = omega arith in rw (e, pow-add 2 (8 * n) 8, bits-bytes n, pow-suc 256 n)
+
+-- the last byte is what remains of the value modulo 256
+pub value-ends : (h a : ℕ) (l : List ℕ) → Bytes (a ∷ l) → valueFrom h (a ∷ l) % 256 ≡ getD (a ∷ l) (length l) 0
+unfolding valueFrom
+value-ends h a [] by = omega (arith, by .byte 0)
+value-ends h a (b ∷ l) by = value-ends (h * 256 + a) b l (bytes-tail by)
