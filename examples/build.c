@@ -19,10 +19,10 @@
 /* What text and carried rows point into. The zero byte behind is no part of a text. */
 static const uint8_t buffer[] = MISSION BASE;
 
-/* The code that is nearest to a value in house units. A value outside the item's range has none, and that ends the program. */
-static uint64_t code_of(uint64_t tag, int64_t value)
+/* The code of so many bytes for a value in house units. A value outside the item's range has none, and that ends the program. */
+static uint64_t code_of(uint64_t tag, size_t length, int64_t value)
 {
-    oyk_code_answer answer = oyk_to_code(tag, value);
+    oyk_code_answer answer = oyk_to_code(tag, length, value);
     if (answer.refusal.number)
         exit(refused(stderr, answer.refusal));
     return answer.code;
@@ -38,10 +38,10 @@ static int build(void)
         2, OYK_READING, TIME, OYK_PART(0, 8),
         65, OYK_READING, 17, OYK_PART(0, 1), /* of ST 0601.17 */
         3, OYK_TEXT, 0, OYK_PART(0, sizeof MISSION - 1),
-        13, OYK_READING, code_of(13, 468995000), OYK_PART(0, 4), /* 46.8995 degrees north, in 10^-7 degree */
-        14, OYK_READING, code_of(14, -82995000), OYK_PART(0, 4), /* 8.2995 degrees west */
-        75, OYK_READING, code_of(75, 690000), OYK_PART(0, 2),    /* 690 m, in mm; a step is 0.3 m, so 689.935 m will be read */
-        82, OYK_MARK, MARK, OYK_PART(0, 4),                      /* corner 1 is off the Earth, which only the mark can say */
+        13, OYK_READING, code_of(13, 4, 468995000), OYK_PART(0, 4), /* 46.8995 degrees north, in 10^-7 degree */
+        14, OYK_READING, code_of(14, 4, -82995000), OYK_PART(0, 4), /* 8.2995 degrees west */
+        75, OYK_READING, code_of(75, 2, 690000), OYK_PART(0, 2),    /* 690 m, in mm; a step is 0.3 m, so 689.935 m will be read */
+        82, OYK_MARK, MARK, OYK_PART(0, 4),                         /* corner 1 is off the Earth, which only the mark can say */
         83, OYK_MARK, MARK, OYK_PART(0, 4),
         107, OYK_CARRIED, 0, OYK_PART(sizeof MISSION - 1, sizeof BASE - 1), /* operational base: its bytes go out as they are */
         1, OYK_READING, 0, OYK_PART(0, 2), /* the code is not looked at: the writer works the checksum out */

@@ -36,16 +36,22 @@ static size_t find_row(const uint64_t *table, size_t count, const uint8_t *packe
     return n;
 }
 
+/* How many bytes the value of a row has: the low part of its fourth word, as OYK_PART puts it together. */
+static size_t length_of(const uint64_t *row)
+{
+    return (size_t)(row[3] % 65536);
+}
+
 /*
  * Reads the packet into a table, changes the row of the tag, and writes all rows again. Text and carried rows point into the packet, so
- * it is the writer's buffer.
+ * it is the writer's buffer. The value keeps its length, by which the scale of an extended height goes.
  */
 static int change(const uint8_t *packet, size_t length, uint64_t tag, int64_t value)
 {
     uint64_t table[OYK_TABLE_WORDS];
     uint8_t out[OYK_LONGEST_PACKET];
     oyk_count_answer rows = oyk_read(packet, length, OYK_KNOWS_ALL_LOW, OYK_KNOWS_ALL_HIGH, table, OYK_TABLE_WORDS);
-    oyk_code_answer code = oyk_to_code(tag, value);
+    oyk_code_answer code;
     size_t n;
     if (rows.refusal.number)
         return refused(stderr, rows.refusal);
@@ -54,6 +60,7 @@ static int change(const uint8_t *packet, size_t length, uint64_t tag, int64_t va
         fprintf(stderr, "change: the packet has no item %" PRIu64 "\n", tag);
         return REFUSED;
     }
+    code = oyk_to_code(tag, length_of(&table[4 * n]), value);
     if (code.refusal.number)
         return refused(stderr, code.refusal);
     /* The kind too: where a mark stood, the code is a reading now, and a row whose kind and code disagree is bad. */

@@ -10,8 +10,8 @@
  * same calls, compiled by another back end of LLVM.
  *
  * What each function answers is defined in the project's scope paper ("document 01") and its change requests ("document 02"), and proved of
- * the code. examples/ has programs that print the corners of a picture, say which items are there, build a packet from nothing, and read,
- * change and write one.
+ * the code. examples/ has programs that print the corners of a picture and the heights, say which items are there, build a packet from
+ * nothing, and read, change and write one.
  *
  * Every input gets an answer. Nothing has to be true of a packet, a table of rows, a knowing set, a place, a tag, a code or a value
  * before it is given to a function: what is not accepted is refused by number, place and tag.
@@ -23,14 +23,14 @@
  *     length is 0.
  *   - What is lent as const is only read. Inputs may overlap each other; an output may not overlap any input.
  *   - On a refusal no memory lent changes, and none carries a part of the refusal: all of it is in the answer.
- *   - On x86-64 oyk_list takes 5,320 bytes of stack, and any other call at most 1,560 bytes.
+ *   - On x86-64 oyk_list takes 5,304 bytes of stack, and any other call at most 1,208 bytes.
  *
  * Knowing set
  *   Which items of the catalogue a receiver knows, as two words: tag t from 0 to 63 is bit t of low, tag t from 64 to 127 is bit t - 64
  *   of high. A set is good when it holds 1, 2 and 65 and nothing outside the catalogue. Any other item of a packet is carried: its
- *   bytes are handed on and not looked into. A receiver that does not know item 75, for example:
+ *   bytes, of whatever length, are handed on and not looked into. A receiver that does not know item 104, for example:
  *
- *     oyk_sensor_height(packet, length, OYK_KNOWS_ALL_LOW, OYK_KNOWS_ALL_HIGH & ~(UINT64_C(1) << (75 - 64)))
+ *     oyk_sensor_height(packet, length, OYK_KNOWS_ALL_LOW, OYK_KNOWS_ALL_HIGH & ~(UINT64_C(1) << (104 - 64)))
  *
  * Which items are there
  *   oyk_check and oyk_read answer two words beside the count: tag t is bit t of the pair, as in a knowing set, and is set where a row of tag t
@@ -66,9 +66,15 @@
  *     39                                  signed    1  -128 to 127 degrees C
  *     55                                  unsigned  1  0 to 100 percent
  *     79, 80                              signed    2  -327 to 327 m/s
+ *     103, 104, 105                       extended  2 to 4  -900 to 40000 m
  *
  *   Of the signed ones the lowest code is a mark, but for 39. Without scale are 1, 2 (microseconds), 34 (codes 0 to 2), 63 (codes 0 to 8)
  *   and 65, and the texts, 3, 4, 10, 11, 12, 59 and 70.
+ *
+ *   An extended height is an unsigned number of 2, 3 or 4 bytes, and its scale goes by its length: -900 m plus the code divided by
+ *   2^(8 * length - 17) per metre, so that a code counts 2 m, 7.8125 mm or about 0.03 mm. The highest codes are 4FE2, 4FE200 and 4FE20000, which
+ *   are 40,000 m; what is beyond is refused. Therefore both conversions are told the length that stands in oyk_row and in the fourth word
+ *   of a row. At every other tag they do not ask for it, whatever it is.
  *
  * Rows
  *   A table has four words for each row: tag; kind; the stored code (0 for text and carried); OYK_PART(place, length) of the value in the
@@ -77,9 +83,16 @@
  *   - its kind is not the one that this receiver gives the tag: carried for a tag that it does not know, text for a text, for a number the
  *     mark where the code is the item's mark and else the reading;
  *   - it is text or carried and has a code other than 0, or its place plus its length is beyond the buffer;
- *   - it is a number with another length than the catalogue's, or a code that is too wide for it.
+ *   - it is a number with another length than the catalogue's (2, 3 or 4 for an extended height), or a code that is too wide for its length.
  *   The place of a number is not looked at, nor is the code of item 1: the writer works the checksum out. What makes no row bad but a packet
- *   wrong (a text of 0 or of over 127 bytes, a known tag twice, an order that starts or ends wrongly) is refused by its own number.
+ *   wrong (a text of 0 or of over 127 bytes, a known tag twice, item 34 or 63 outside its codes, an extended height beyond 40,000 m, an order
+ *   that starts or ends wrongly) is refused by its own number.
+ *
+ * Receivers of different age
+ *   An item that a receiver does not know is as if it were not there for heights and corners. So the receivers of one packet may say different
+ *   things, each of them rightly: of a newer drone an older receiver, which does not know 104, says the sensor height by 75 or 15, where a
+ *   newer one says it by 104, with another number and, against 15, another kind. Whoever compares heights of several receivers looks at the
+ *   kind first.
  */
 #ifndef OYSTERKNOLL_H
 #define OYSTERKNOLL_H
@@ -92,7 +105,7 @@ extern "C" {
 #endif
 
 /* The version of what this header and an archive say to each other: an archive that goes with it answers this number to oyk_version. */
-#define OYK_VERSION 2
+#define OYK_VERSION 3
 
 /* The words of a table that oyk_read fills: four for each of at most 128 rows. */
 #define OYK_TABLE_WORDS 512
@@ -104,9 +117,9 @@ extern "C" {
 /* The fourth word of a row: where its value stands in the buffer, and how many bytes it has (under 65,536). */
 #define OYK_PART(place, length) ((uint64_t)(place) * 65536 + (uint64_t)(length))
 
-/* The knowing set with the whole catalogue, 64 items. */
+/* The knowing set with the whole catalogue, 67 items. */
 #define OYK_KNOWS_ALL_LOW UINT64_C(0x8b8000fffffffffe)
-#define OYK_KNOWS_ALL_HIGH UINT64_C(0x000000000ffdc8db)
+#define OYK_KNOWS_ALL_HIGH UINT64_C(0x000003800ffdc8db)
 
 /*
  * Refusals, by number; 0 where nothing is refused. Beside each, what place and tag are; those not named are 0.
@@ -126,7 +139,7 @@ extern "C" {
 #define OYK_REFUSED_CHECKSUM_DIFFERS 11   /* checksum differs; its value's place, tag 1 */
 #define OYK_REFUSED_LENGTH_NOT_ALLOWED 12 /* known item of wrong length; its start and tag */
 #define OYK_REFUSED_KNOWN_TAG_TWICE 13    /* known tag a second time; the second one's start and tag */
-#define OYK_REFUSED_CODE_NOT_ALLOWED 14   /* item 34 or 63 outside its codes; its start and tag */
+#define OYK_REFUSED_CODE_NOT_ALLOWED 14   /* item 34 or 63 outside its codes, or an extended height beyond 40,000 m; its start and tag */
 #define OYK_REFUSED_VERSION_MISSING 15    /* no item 65 */
 
 /* Of the writer, which also gives 1, 3, 9, 10 and 12 to 15: its place in 9, 10, 12 to 14 and 17 is the row number, from 0. */
@@ -136,8 +149,8 @@ extern "C" {
 #define OYK_REFUSED_WORDS_DISAGREE 22      /* words disagree: oyk_write_with is handed others than a scan of its rows gives */
 
 /* Of the conversions, each with the tag as given. */
-#define OYK_REFUSED_NO_SCALE 19           /* tag has no scale */
-#define OYK_REFUSED_NOT_A_NUMBER 20       /* code is a mark or too wide */
+#define OYK_REFUSED_NO_SCALE 19           /* tag has no scale, or an extended height has another length than 2, 3 or 4 */
+#define OYK_REFUSED_NOT_A_NUMBER 20       /* code is a mark or too wide, or an extended height beyond 40,000 m */
 #define OYK_REFUSED_VALUE_OUT_OF_RANGE 21 /* value outside the range */
 
 /* Kinds of a row (oyk_row, and the second word of each row in a table). */
@@ -165,6 +178,7 @@ extern "C" {
 #define OYK_STORED_UNSIGNED 1 /* an unsigned number */
 #define OYK_STORED_SIGNED 2   /* a number in two's complement */
 #define OYK_STORED_TEXT 3     /* a text of 1 to 127 bytes, which may be any */
+#define OYK_STORED_EXTENDED 4 /* an extended height: an unsigned number of 2, 3 or 4 bytes, whose scale goes by its length */
 
 /* Units (oyk_item): what a value in house units counts. A person's unit is 10^7 of them for degrees, and else 1,000. */
 #define OYK_UNIT_NONE 0             /* no unit: a text, or a number whose code is all there is */
@@ -247,7 +261,10 @@ extern "C" {
     ITEM(88, "Corner Latitude Point 4 (Full)", DEGREE)       \
     ITEM(89, "Corner Longitude Point 4 (Full)", DEGREE)      \
     ITEM(90, "Platform Pitch Angle (Full)", DEGREE)          \
-    ITEM(91, "Platform Roll Angle (Full)", DEGREE)
+    ITEM(91, "Platform Roll Angle (Full)", DEGREE)           \
+    ITEM(103, "Density Altitude Extended", METRE)            \
+    ITEM(104, "Sensor Ellipsoid Height Extended", METRE)     \
+    ITEM(105, "Alternate Platform Ellipsoid Height Extended", METRE)
 
 /* A refusal. If number is 0, nothing is refused, and place and tag are 0. */
 typedef struct oyk_refusal {
@@ -262,7 +279,7 @@ typedef struct oyk_row {
     uint64_t kind; /* OYK_READING, OYK_MARK, OYK_TEXT or OYK_CARRIED */
     uint64_t code; /* the stored code of a reading or a mark; 0 for text and carried */
     size_t place;  /* where the value's bytes stand in the packet or the buffer */
-    size_t length; /* how many they are */
+    size_t length; /* how many they are: what oyk_to_house is told */
 } oyk_row;
 
 /* Which known items are there (see above). No bit is set where none is. */
@@ -335,8 +352,8 @@ typedef struct oyk_corner_answer {
 
 /* What the catalogue has for a tag (oyk_item). Nothing is refused: for a tag that it does not have, all is 0. */
 typedef struct oyk_item_answer {
-    uint64_t stored; /* OYK_NOT_LISTED, OYK_STORED_UNSIGNED, OYK_STORED_SIGNED or OYK_STORED_TEXT */
-    size_t width;    /* the bytes of a number; 0 for a text */
+    uint64_t stored; /* OYK_NOT_LISTED or one of OYK_STORED_... */
+    size_t width;    /* the bytes of a number; 0 for a text and for an extended height */
     int64_t low;     /* the least value, in house units */
     int64_t high;    /* the greatest; equal to low where there is no scale */
     uint64_t unit;   /* one of OYK_UNIT_... */
@@ -408,17 +425,22 @@ oyk_size_answer oyk_write_with(const uint64_t *words, size_t words_len, size_t c
  */
 oyk_size_answer oyk_forward(const uint8_t *packet, size_t packet_len, uint64_t low, uint64_t high, uint8_t *out, size_t out_len);
 
-/* Turns a stored code into house units. value: the nearest whole number; a tie never occurs. */
-oyk_value_answer oyk_to_house(uint64_t tag, uint64_t code);
-
 /*
- * Turns a value in house units into a code. code: the nearest; a value half way between two codes gets the one further from the low end
- * of an unsigned item, and the one further from zero of a signed item.
+ * Turns a stored code of length bytes into house units. value: the nearest whole number. A tie never occurs but at an extended height, where
+ * it goes upward, below zero too. The length is asked at an extended height alone (see House units above).
  */
-oyk_code_answer oyk_to_code(uint64_t tag, int64_t value);
+oyk_value_answer oyk_to_house(uint64_t tag, size_t length, uint64_t code);
 
 /*
- * How high the sensor is: by item 75, over the ellipsoid, if the packet has it, else by item 15, over mean sea level. Never refusal 2.
+ * Turns a value in house units into a code of length bytes. code: the nearest; a value half way between two codes gets the one further from
+ * the low end of an unsigned item, and the one further from zero of a signed item. An extended height gets the code at or below: 2F921E of
+ * three bytes is 23,456,234.375 mm and read as 23,456,234, which is sent as 2F921D.
+ */
+oyk_code_answer oyk_to_code(uint64_t tag, size_t length, int64_t value);
+
+/*
+ * How high the sensor is: by item 104, over the ellipsoid, if the packet has it, else by item 75, over the ellipsoid too, else by item 15, over
+ * mean sea level. Never refusal 2. Items 103 and 105 are no heights of the sensor and are not asked.
  */
 oyk_height_answer oyk_sensor_height(const uint8_t *packet, size_t packet_len, uint64_t low, uint64_t high);
 

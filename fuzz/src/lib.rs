@@ -93,24 +93,26 @@ impl Target {
         }
     }
 
-    /// The rest is tags, each with a word. What the catalogue has for the tag is asked first.
+    /// The rest is tags, each with a length and a word. What the catalogue has for the tag is asked first.
     fn ask_conversions(&mut self, to_house: bool, mut input: Input) -> Verdict {
         let comparer = &mut self.comparer;
         for _ in 0..MOST_CONVERSIONS {
             if input.is_empty() {
                 break;
             }
-            let (tag, word) = (input.number(), input.word());
+            let (tag, length, word) = (input.number(), input.number(), input.word());
             comparer.item(tag)?;
-            if to_house {
-                conversion::codes(tag, word)
-                    .into_iter()
-                    .try_for_each(|code| comparer.house_of(tag, code))
-            } else {
-                conversion::values(tag, word)
-                    .into_iter()
-                    .try_for_each(|value| comparer.code_of(tag, value))
-            }?;
+            for length in conversion::lengths(length) {
+                if to_house {
+                    conversion::codes(tag, length, word)
+                        .into_iter()
+                        .try_for_each(|code| comparer.house_of(tag, length, code))
+                } else {
+                    conversion::values(tag, length, word)
+                        .into_iter()
+                        .try_for_each(|value| comparer.code_of(tag, length, value))
+                }?;
+            }
         }
         Ok(())
     }

@@ -62,6 +62,7 @@ fn record<'a>(row: &Row, buffer: &'a [u8]) -> Record<'a> {
         tag: row.tag,
         kind: [CARRIED, READING, MARK, TEXT][(row.kind % 4) as usize],
         code: row.code,
+        length: row.length,
         value: part.unwrap_or_default(),
     }
 }

@@ -119,7 +119,8 @@ fn lent(dice: &mut Dice) -> Lent {
     let knowing = match dice.throw(8) {
         0 => Knowing::LEAST,
         1 => Knowing::ALL.with(dice.throw(128) as u64),
-        2..=4 => (0..20).fold(Knowing::ALL, |set, _| {
+        2 => Knowing::ALL.without(103 + dice.throw(3) as u64),
+        3 | 4 => (0..20).fold(Knowing::ALL, |set, _| {
             set.without(3 + dice.throw(62) as u64)
         }),
         _ => Knowing::ALL,
@@ -155,7 +156,7 @@ fn damaged_packet(dice: &mut Dice) -> Vec<u8> {
 
 fn damage_items(items: &mut Vec<Item>, dice: &mut Dice) {
     let (n, m) = (dice.throw(items.len()), dice.throw(items.len()));
-    match dice.throw(10) {
+    match dice.throw(12) {
         0 => drop(items.remove(n)),
         1 => items.insert(m, items[n].clone()),
         2 => items.swap(n, m),
@@ -168,13 +169,28 @@ fn damage_items(items: &mut Vec<Item>, dice: &mut Dice) {
         5 => items.extend((0..dice.throw(140)).map(|k| (100, vec![0; k % 3]))),
         6 => items.push(([34, 63][dice.throw(2)], vec![dice.throw(11) as u8])),
         7 => mark(&mut items[n].1),
-        8 => {
+        8 | 9 => items.insert(m, height(dice)),
+        10 => {
             items.extend((82..82 + dice.throw(9) as u64).map(|tag| (tag, vec![tag as u8; 4])));
             let length = items.len();
             mark(&mut items[length - 1 - dice.throw(4)].1);
         }
         _ => items.extend((0..dice.throw(60)).map(|k| (128 + k as u64, vec![k as u8; 200]))),
     }
+}
+
+/// An extended height, of a right length mostly, about its highest value or anywhere.
+fn height(dice: &mut Dice) -> Item {
+    let length = [2, 3, 4, 2, 3, 4, 0, 1, 5][dice.throw(9)];
+    let highest = [0x4F, 0xE2, 0, 0, 0];
+    let mut value = highest[..length].to_vec();
+    if let Some(last) = value.last_mut() {
+        *last += dice.throw(3) as u8;
+    }
+    if dice.throw(2) == 0 {
+        value.fill_with(|| dice.throw(0x60) as u8);
+    }
+    (103 + dice.throw(3) as u64, value)
 }
 
 /// The top bit alone, which is a mark where the item has one.

@@ -76,20 +76,41 @@ fn library(operation: &str, packet: &[u8], times: usize) -> bool {
             let present = checked.map_or(Present::default(), |accepted| accepted.present);
             repeat(times, || black_box(present).has(black_box(23)))
         }
-        "walk" => repeat(times, || {
-            oysterknoll::items(packet(), all).map_or(0, Iterator::count)
-        }),
-        "list" => {
-            let mut listing = [0; LONGEST_LISTING];
-            repeat(times, || oysterknoll::list(packet(), &mut listing))
-        }
         "corner" => repeat(times, || oysterknoll::corner(packet(), all, black_box(1))),
-        "to_house" => repeat(times, || {
-            oysterknoll::to_house(black_box(13), black_box(0x42B3_963B))
+        "walk" | "list" => library_alone(operation, packet(), times),
+        _ => library_conversion(operation, times),
+    }
+}
+
+/// The operations that have no rival.
+fn library_alone(operation: &str, packet: &[u8], times: usize) -> bool {
+    let mut listing = [0; LONGEST_LISTING];
+    let packet = || black_box(packet);
+    match operation {
+        "walk" => repeat(times, || {
+            oysterknoll::items(packet(), Knowing::ALL).map_or(0, Iterator::count)
         }),
-        "to_code" => repeat(times, || {
-            oysterknoll::to_code(black_box(13), black_box(468_995_000))
-        }),
+        _ => repeat(times, || oysterknoll::list(packet(), &mut listing)),
+    }
+}
+
+/// A conversion of a latitude, or of an extended height of three bytes.
+fn library_conversion(operation: &str, times: usize) -> bool {
+    let to_house = |tag, length, code| {
+        repeat(times, || {
+            oysterknoll::to_house(black_box(tag), black_box(length), black_box(code))
+        })
+    };
+    let to_code = |tag, length, value| {
+        repeat(times, || {
+            oysterknoll::to_code(black_box(tag), black_box(length), black_box(value))
+        })
+    };
+    match operation {
+        "to_house" => to_house(13, 4, 0x42B3_963B),
+        "to_code" => to_code(13, 4, 468_995_000),
+        "to_house_104" => to_house(104, 3, 0x2F_921E),
+        "to_code_104" => to_code(104, 3, 23_456_240),
         _ => false,
     }
 }
@@ -122,12 +143,27 @@ fn rival(operation: &str, packet: &[u8], times: usize) -> bool {
             repeat(times, || rival::has(black_box(present), black_box(23)))
         }
         "corner" => repeat(times, || rival::corner(packet(), low, high, black_box(1))),
-        "to_house" => repeat(times, || {
-            rival::to_house(black_box(13), black_box(0x42B3_963B))
-        }),
-        "to_code" => repeat(times, || {
-            rival::to_code(black_box(13), black_box(468_995_000))
-        }),
+        _ => rival_conversion(operation, times),
+    }
+}
+
+/// The same of the rival.
+fn rival_conversion(operation: &str, times: usize) -> bool {
+    let to_house = |tag, length, code| {
+        repeat(times, || {
+            rival::to_house(black_box(tag), black_box(length), black_box(code))
+        })
+    };
+    let to_code = |tag, length, value| {
+        repeat(times, || {
+            rival::to_code(black_box(tag), black_box(length), black_box(value))
+        })
+    };
+    match operation {
+        "to_house" => to_house(13, 4, 0x42B3_963B),
+        "to_code" => to_code(13, 4, 468_995_000),
+        "to_house_104" => to_house(104, 3, 0x2F_921E),
+        "to_code_104" => to_code(104, 3, 23_456_240),
         _ => false,
     }
 }

@@ -64,7 +64,12 @@ pub fn typical() -> Vec<Item> {
 /// 16 items a kilobyte: eight of the catalogue and eight carried ones, every fourth of these with a tag of two bytes.
 fn of_kilobytes(kilobytes: usize) -> Vec<u8> {
     let pairs = 8 * kilobytes - 2;
-    let carried_tag = |n: u64| if n % 4 == 3 { 128 + n } else { 92 + n % 36 };
+    let carried_tag = |n: u64| match 92 + n % 36 {
+        _ if n % 4 == 3 => 128 + n,
+        // Of the catalogue, and so not carried.
+        tag @ 103..=105 => tag - 3,
+        tag => tag,
+    };
     let mut items = vec![(TIME.0, TIME.1.to_vec()), (92, vec![]), (93, vec![])];
     for (n, &tag) in (0..).zip(&KNOWN_TAGS[..pairs]) {
         items.extend([made_up(tag), (carried_tag(n), vec![])]);

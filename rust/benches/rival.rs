@@ -34,6 +34,11 @@ const NUMBER: u8 = 1;
 const NUMBER_OR_MARK: u8 = 2;
 const TEXT: u8 = 3;
 const CARRIED: u8 = 4;
+/// A number of 2, 3 or 4 bytes.
+const EXTENDED: u8 = 5;
+
+/// The highest value of an extended height, of which one of fewer bytes has the first.
+const HIGHEST: [u8; 4] = [0x4F, 0xE2, 0, 0];
 
 /// What the catalogue says of a tag: the least length, how many more bytes it may have, its largest first byte, its form.
 #[derive(Clone, Copy)]
@@ -52,7 +57,7 @@ const CATALOGUE_TAGS: [u64; 2] = catalogue_tags();
 type Group = ((u8, u8, u8, u8), &'static [usize]);
 
 /// The catalogue's tags by what is said of them.
-const GROUPS: [Group; 10] = [
+const GROUPS: [Group; 11] = [
     ((1, 0, 255, NUMBER), &[8, 9, 36, 39, 55, 56, 65]),
     ((1, 0, 2, NUMBER), &[34]),
     ((1, 0, 8, NUMBER), &[63]),
@@ -72,6 +77,7 @@ const GROUPS: [Group; 10] = [
         &[82, 83, 84, 85, 86, 87, 88, 89, 90, 91],
     ),
     ((1, 126, 255, TEXT), &[3, 4, 10, 11, 12, 59, 70]),
+    ((2, 2, HIGHEST[0], EXTENDED), &[103, 104, 105]),
 ];
 
 const fn catalogue() -> [Rule; 128] {
@@ -280,7 +286,9 @@ impl Known {
         self.awaited[(item.tag / 64) as usize] &= !(1 << (item.tag % 64));
         let number = match item.length.checked_sub(rule.least.into()) {
             Some(more) if more <= rule.span.into() => match is_fresh {
-                true if packet[item.place] <= rule.top => return Ok(item),
+                true if is_within(rule, &packet[item.place..item.place + item.length]) => {
+                    return Ok(item)
+                }
                 true => 14,
                 false => 13,
             },
@@ -288,6 +296,14 @@ impl Known {
         };
         self.fault.get_or_insert(refusal(number, start, item.tag));
         Ok(item)
+    }
+}
+
+/// Whether a value of a right length is none that is refused by its code. Bytes compare as the numbers that they are.
+fn is_within(rule: Rule, value: &[u8]) -> bool {
+    match rule.form {
+        EXTENDED => value <= &HIGHEST[..value.len()],
+        _ => value[0] <= rule.top,
     }
 }
 

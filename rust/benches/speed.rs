@@ -156,20 +156,17 @@ fn further_contest(packet: &[u8], rounds: usize) -> Vec<Times> {
 
 /// The times of the conversions.
 fn conversions(rounds: usize) -> [Times; 2] {
-    let (tag, code, value) = (
-        || black_box(13),
-        || black_box(0x42B3_963B),
-        || black_box(468_995_000),
-    );
+    let (tag, length) = (|| black_box(13), || black_box(4));
+    let (code, value) = (|| black_box(0x42B3_963B), || black_box(468_995_000));
     let to_house = race(
         rounds,
-        || oysterknoll::to_house(tag(), code()),
-        || rival::to_house(tag(), code()),
+        || oysterknoll::to_house(tag(), length(), code()),
+        || rival::to_house(tag(), length(), code()),
     );
     let to_code = race(
         rounds,
-        || oysterknoll::to_code(tag(), value()),
-        || rival::to_code(tag(), value()),
+        || oysterknoll::to_code(tag(), length(), value()),
+        || rival::to_code(tag(), length(), value()),
     );
     [("to_house", to_house), ("to_code", to_code)]
 }

@@ -1,17 +1,15 @@
-//! The catalogue: what each of the 64 items is called, how it is stored, and what its values are.
+//! The catalogue: what each of the 67 items is called, how it is stored, and what its values are.
 //!
 //! The names are those of ST 0601. All else is asked of the library.
 //!
 //! ```
-//! use oysterknoll::{catalogue, items, to_house, Content, Knowing};
+//! use oysterknoll::{catalogue, items, Knowing};
 //!
 //! let packet = include_bytes!("../../samples/tower.klv");
 //! let mut lines = Vec::new();
 //! for row in items(packet, Knowing::ALL)? {
-//!     if let (Some(item), Content::Reading(code)) = (catalogue::item(row.tag), row.content) {
-//!         if let Ok(value) = to_house(row.tag, code) {
-//!             lines.push(format!("{}: {}", item.name, item.value(value)));
-//!         }
+//!     if let (Some(item), Some(value)) = (catalogue::item(row.tag), row.value()) {
+//!         lines.push(format!("{}: {}", item.name, item.value(value)));
 //!     }
 //! }
 //! assert_eq!(lines[0], "Platform Heading Angle: 33.2011902°");
@@ -56,10 +54,12 @@ pub struct Item {
 /// use oysterknoll::catalogue::{self, Stored};
 ///
 /// let bytes = |tag| match catalogue::item(tag)?.stored {
-///     Stored::Unsigned { width } | Stored::Signed { width } => Some(width),
-///     Stored::Text => None,
+///     Stored::Unsigned { width } | Stored::Signed { width } => Some(width..=width),
+///     Stored::Extended => Some(2..=4),
+///     Stored::Text => Some(1..=127),
 /// };
-/// assert_eq!((bytes(2), bytes(13), bytes(3)), (Some(8), Some(4), None));
+/// assert_eq!((bytes(2), bytes(104), bytes(3)), (Some(8..=8), Some(2..=4), Some(1..=127)));
+/// assert_eq!(bytes(40), None);
 /// ```
 #[derive(Clone, Copy, Debug, PartialEq, Eq, Hash)]
 pub enum Stored {
@@ -73,6 +73,8 @@ pub enum Stored {
         /// Of so many bytes.
         width: usize,
     },
+    /// As an extended height: an unsigned number of 2, 3 or 4 bytes, whose scale goes by its length.
+    Extended,
     /// As a text of 1 to 127 bytes, which may be any.
     Text,
 }
@@ -84,7 +86,7 @@ pub enum Stored {
 ///
 /// let range = catalogue::item(15).unwrap().range.unwrap();
 /// assert_eq!((range.low, range.high), (-900_000, 19_000_000)); // in mm
-/// assert!(to_code(15, range.high).is_ok() && to_code(15, range.high + 1).is_err());
+/// assert!(to_code(15, 2, range.high).is_ok() && to_code(15, 2, range.high + 1).is_err());
 /// ```
 #[derive(Clone, Copy, Debug, PartialEq, Eq, Hash)]
 pub struct Range {
@@ -159,7 +161,7 @@ pub fn item(tag: u64) -> Option<Item> {
 /// ```
 /// use oysterknoll::catalogue::{self, Stored};
 ///
-/// assert_eq!(catalogue::all().count(), 64);
+/// assert_eq!(catalogue::all().count(), 67);
 /// let texts = catalogue::all().filter(|item| item.stored == Stored::Text);
 /// assert!(texts.map(|item| item.tag).eq([3, 4, 10, 11, 12, 59, 70]));
 /// ```
@@ -175,6 +177,7 @@ fn listed(tag: u64, name: &'static str) -> Option<Item> {
         raw::STORED_UNSIGNED => Stored::Unsigned { width },
         raw::STORED_SIGNED => Stored::Signed { width },
         raw::STORED_TEXT => Stored::Text,
+        raw::STORED_EXTENDED => Stored::Extended,
         _ => return None,
     };
     Some(Item {
@@ -194,7 +197,7 @@ impl Item {
     /// use oysterknoll::{catalogue, to_house};
     ///
     /// let latitude = catalogue::item(13).unwrap();
-    /// let value = latitude.value(to_house(13, 0x42b3_963b)?);
+    /// let value = latitude.value(to_house(13, 4, 0x42b3_963b)?);
     /// assert_eq!(value.to_string(), "46.8995000°");
     /// # Ok::<(), oysterknoll::Refusal>(())
     /// ```
@@ -285,7 +288,7 @@ fn fill(f: &mut fmt::Formatter<'_>, times: usize) -> fmt::Result {
 }
 
 /// The names, in the order of the tags.
-const NAMES: [(u64, &str); 64] = [
+const NAMES: [(u64, &str); 67] = [
     (1, "Checksum"),
     (2, "Precision Time Stamp"),
     (3, "Mission ID"),
@@ -350,4 +353,7 @@ const NAMES: [(u64, &str); 64] = [
     (89, "Corner Longitude Point 4 (Full)"),
     (90, "Platform Pitch Angle (Full)"),
     (91, "Platform Roll Angle (Full)"),
+    (103, "Density Altitude Extended"),
+    (104, "Sensor Ellipsoid Height Extended"),
+    (105, "Alternate Platform Ellipsoid Height Extended"),
 ];

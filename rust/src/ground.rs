@@ -96,7 +96,11 @@ pub enum Corner {
     Missing,
 }
 
-/// How high the sensor is: by item 75, over the ellipsoid, if the packet has it, else by item 15, over mean sea level.
+/// How high the sensor is: by item 104, over the ellipsoid, if the packet has it, else by item 75, over the ellipsoid too, else by item 15,
+/// over mean sea level.
+///
+/// Only items that the receiver knows count: of a newer drone's packet an older receiver answers by 75 or 15 where a newer one answers by
+/// 104, with another number or even another kind.
 ///
 /// # Errors
 ///
@@ -107,12 +111,15 @@ pub enum Corner {
 /// ```
 /// use oysterknoll::{sensor_height, EllipsoidHeight, Height, Knowing, SeaLevelHeight};
 ///
-/// let packet = include_bytes!("../../samples/tower.klv");
+/// let packet = include_bytes!("../../samples/tower_extended.klv");
 /// let height = sensor_height(packet, Knowing::ALL)?;
-/// assert_eq!(height, Height::OverEllipsoid(EllipsoidHeight(689_935)));
+/// assert_eq!(height, Height::OverEllipsoid(EllipsoidHeight(690_063)));
 ///
-/// // A receiver that does not know item 75.
-/// let height = sensor_height(packet, Knowing::ALL.without(75))?;
+/// // A receiver that does not know item 104, and one that does not know item 75 either.
+/// let older = Knowing::ALL.without(104);
+/// let height = sensor_height(packet, older)?;
+/// assert_eq!(height, Height::OverEllipsoid(EllipsoidHeight(689_935)));
+/// let height = sensor_height(packet, older.without(75))?;
 /// assert_eq!(height, Height::OverSeaLevel(SeaLevelHeight(641_958)));
 /// # Ok::<(), oysterknoll::Refusal>(())
 /// ```

@@ -6,9 +6,9 @@
 /// ```
 /// use oysterknoll::Knowing;
 ///
-/// // A receiver that is older than the heights over the ellipsoid.
-/// let old = Knowing::ALL.without(75).without(78);
-/// assert!(old.knows(15) && !old.knows(75));
+/// // A receiver that is older than the extended heights.
+/// let old = Knowing::ALL.without(103).without(104).without(105);
+/// assert!(old.knows(75) && !old.knows(104));
 ///
 /// // One that wants times and positions and carries the rest.
 /// let positions = Knowing::LEAST.with(13).with(14);
@@ -21,14 +21,14 @@ pub struct Knowing {
 }
 
 impl Knowing {
-    /// The whole catalogue: 64 tags.
+    /// The whole catalogue: 67 tags.
     ///
     /// ```
     /// use oysterknoll::{catalogue, Knowing};
     ///
     /// assert!(catalogue::all().all(|item| Knowing::ALL.knows(item.tag)));
     /// ```
-    pub const ALL: Knowing = Knowing::from_words(0x8b80_00ff_ffff_fffe, 0x0000_0000_0ffd_c8db);
+    pub const ALL: Knowing = Knowing::from_words(0x8b80_00ff_ffff_fffe, 0x0000_0380_0ffd_c8db);
 
     /// The smallest good set: the checksum, the time stamp and the version (1, 2 and 65).
     ///

@@ -69,9 +69,9 @@ struct Readme;
 /// The version of what this crate and an archive say to each other: an archive that goes with the crate answers it to [`version`].
 ///
 /// ```
-/// assert_eq!(oysterknoll::VERSION, 2);
+/// assert_eq!(oysterknoll::VERSION, 3);
 /// ```
-pub const VERSION: u64 = 2;
+pub const VERSION: u64 = 3;
 
 /// The words of a table that [`read`] fills: four for each of at most 128 rows.
 ///
@@ -194,42 +194,57 @@ pub fn forward(packet: &[u8], knowing: Knowing, out: &mut [u8]) -> Result<usize,
     answer.refusal.or(answer.size)
 }
 
-/// Turns a stored code into house units, to the nearest.
+/// Turns a stored code of so many bytes into house units, to the nearest; [`Row::value`] does it for a row.
+///
+/// The scale of an extended height (103 to 105) goes by the length, and half way between two units its value is the upper one. At every
+/// other tag the length is not asked, whatever it is, and a value is never half way.
 ///
 /// # Errors
 ///
-/// 19 for a tag without scale, 20 for a code that is a mark or too wide; the tag is the one given.
+/// 19 for a tag without scale, and for an extended height of another length than 2, 3 or 4; 20 for a code that is a mark or too wide, and
+/// for an extended height beyond 40,000 m. The tag is the one given.
 ///
 /// # Example
 ///
 /// ```
 /// use oysterknoll::{to_house, Reason};
 ///
-/// assert_eq!(to_house(64, 0xddc5), Ok(3_118_681_621)); // magnetic heading, 311.8681621 degrees
-/// assert_eq!(to_house(26, 0x8000).unwrap_err().reason, Reason::NotANumber); // a mark
+/// assert_eq!(to_house(64, 2, 0xddc5), Ok(3_118_681_621)); // magnetic heading, 311.8681621 degrees
+/// assert_eq!(to_house(26, 2, 0x8000).unwrap_err().reason, Reason::NotANumber); // a mark
+///
+/// // The height of the sensor over the ellipsoid: a code of two bytes counts 2 m, one of three 7.8125 mm.
+/// assert_eq!(to_house(104, 2, 0x2f92), Ok(23_456_000));
+/// assert_eq!(to_house(104, 3, 0x2f_921e), Ok(23_456_234));
+/// assert_eq!(to_house(104, 5, 0x2f_921e).unwrap_err().reason, Reason::NoScale);
 /// ```
-pub fn to_house(tag: u64, code: u64) -> Result<i64, Refusal> {
-    let answer = raw::to_house(tag, code);
+pub fn to_house(tag: u64, length: usize, code: u64) -> Result<i64, Refusal> {
+    let answer = raw::to_house(tag, length, code);
     answer.refusal.or(answer.value)
 }
 
-/// Turns a value in house units into the nearest code.
+/// Turns a value in house units into a code of so many bytes: the nearest, and of an extended height (103 to 105) the one at or below.
+///
+/// At every other tag than those three the length is not asked, whatever it is.
 ///
 /// # Errors
 ///
-/// 19 for a tag without scale, 21 for a value outside the range; the tag is the one given.
+/// 19 for a tag without scale, and for an extended height of another length than 2, 3 or 4; 21 for a value outside the range. The tag is
+/// the one given.
 ///
 /// # Example
 ///
 /// ```
 /// use oysterknoll::{to_code, Reason};
 ///
-/// assert_eq!(to_code(36, 10_000), Ok(26)); // wind speed, 10 m/s
-/// assert_eq!(to_code(36, 9_999), Ok(25));
-/// assert_eq!(to_code(36, 100_001).unwrap_err().reason, Reason::ValueOutOfRange);
+/// assert_eq!(to_code(36, 1, 10_000), Ok(26)); // wind speed, 10 m/s
+/// assert_eq!(to_code(36, 1, 9_999), Ok(25));
+/// assert_eq!(to_code(36, 1, 100_001).unwrap_err().reason, Reason::ValueOutOfRange);
+///
+/// assert_eq!(to_code(104, 3, 23_456_240), Ok(0x2f_921e));
+/// assert_eq!(to_code(104, 3, 23_456_234), Ok(0x2f_921d)); // 2f921e is 23,456,234.375 mm, which is above
 /// ```
-pub fn to_code(tag: u64, value: i64) -> Result<u64, Refusal> {
-    let answer = raw::to_code(tag, value);
+pub fn to_code(tag: u64, length: usize, value: i64) -> Result<u64, Refusal> {
+    let answer = raw::to_code(tag, length, value);
     answer.refusal.or(answer.code)
 }
 

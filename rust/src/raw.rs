@@ -117,6 +117,7 @@ pub const OFF_THE_EARTH: u64 = 2;
 pub const STORED_UNSIGNED: u64 = 1;
 pub const STORED_SIGNED: u64 = 2;
 pub const STORED_TEXT: u64 = 3;
+pub const STORED_EXTENDED: u64 = 4;
 
 // The units.
 pub const UNIT_DEGREE: u64 = 1;
@@ -189,8 +190,8 @@ extern "C" {
         out: *mut u8,
         out_len: usize,
     ) -> SizeAnswer;
-    fn oyk_to_house(tag: u64, code: u64) -> ValueAnswer;
-    fn oyk_to_code(tag: u64, value: i64) -> CodeAnswer;
+    fn oyk_to_house(tag: u64, length: usize, code: u64) -> ValueAnswer;
+    fn oyk_to_code(tag: u64, length: usize, value: i64) -> CodeAnswer;
     fn oyk_sensor_height(packet: *const u8, packet_len: usize, low: u64, high: u64)
         -> HeightAnswer;
     fn oyk_frame_centre_height(
@@ -344,14 +345,14 @@ pub fn forward(packet: &[u8], knowing: Knowing, out: &mut [u8]) -> SizeAnswer {
     }
 }
 
-pub fn to_house(tag: u64, code: u64) -> ValueAnswer {
+pub fn to_house(tag: u64, length: usize, code: u64) -> ValueAnswer {
     // SAFETY: no memory is lent.
-    unsafe { oyk_to_house(tag, code) }
+    unsafe { oyk_to_house(tag, length, code) }
 }
 
-pub fn to_code(tag: u64, value: i64) -> CodeAnswer {
+pub fn to_code(tag: u64, length: usize, value: i64) -> CodeAnswer {
     // SAFETY: no memory is lent.
-    unsafe { oyk_to_code(tag, value) }
+    unsafe { oyk_to_code(tag, length, value) }
 }
 
 pub fn sensor_height(packet: &[u8], knowing: Knowing) -> HeightAnswer {

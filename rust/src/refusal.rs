@@ -89,13 +89,13 @@ reasons! {
     ChecksumDiffers = 11, "checksum differs";
     LengthNotAllowed = 12, "known item of wrong length";
     KnownTagTwice = 13, "known tag a second time";
-    CodeNotAllowed = 14, "item 34 or 63 outside its codes";
+    CodeNotAllowed = 14, "item 34 or 63 outside its codes, or an extended height beyond 40,000 m";
     VersionMissing = 15, "no item 65";
     RowCountTooLarge = 16, "row count over 128 or four times it over the words lent";
     RowBad = 17, "bad row";
     OutputTooShort = 18, "output too short";
-    NoScale = 19, "tag has no scale";
-    NotANumber = 20, "code is a mark or too wide";
+    NoScale = 19, "tag has no scale, or an extended height has another length than 2, 3 or 4";
+    NotANumber = 20, "code is a mark or too wide, or an extended height beyond 40,000 m";
     ValueOutOfRange = 21, "value outside the range";
     WordsDisagree = 22, "words disagree";
 }
@@ -124,7 +124,7 @@ impl Refusal {
     /// The number of the reason.
     ///
     /// ```
-    /// let refusal = oysterknoll::to_house(2, 0).unwrap_err();
+    /// let refusal = oysterknoll::to_house(2, 8, 0).unwrap_err();
     /// assert_eq!(refusal.number(), 19);
     /// ```
     pub const fn number(&self) -> u64 {

@@ -1,5 +1,5 @@
 use crate::raw;
-use crate::{Knowing, Present, Reason, Refusal};
+use crate::{to_house, Knowing, Present, Reason, Refusal};
 use core::fmt;
 use core::iter::FusedIterator;
 use core::ops::Range;
@@ -13,7 +13,7 @@ pub(crate) const WORDS_A_ROW: usize = 4;
 /// use oysterknoll::{items, Content, Knowing, Row};
 ///
 /// let packet = include_bytes!("../../samples/smallest.klv");
-/// let version = Row { tag: 65, content: Content::Reading(17) };
+/// let version = Row { tag: 65, content: Content::Reading { code: 17, length: 1 } };
 /// assert_eq!(items(packet, Knowing::ALL)?.nth(1), Some(version));
 /// # Ok::<(), oysterknoll::Refusal>(())
 /// ```
@@ -26,12 +26,35 @@ pub struct Row<'a> {
 }
 
 impl<'a> Row<'a> {
+    /// What a reading says, in house units; none for any other content, for an item without scale, and for a code that is no number of the
+    /// item.
+    ///
+    /// ```
+    /// use oysterknoll::{items, Knowing};
+    ///
+    /// let packet = include_bytes!("../../samples/tower_extended.klv");
+    /// let value = |tag| items(packet, Knowing::ALL).ok()?.find(|row| row.tag == tag)?.value();
+    /// // Extended heights of two, three and four bytes, in mm.
+    /// assert_eq!([103, 104, 105].map(value), [Some(76_000), Some(690_063), Some(1_249_999)]);
+    /// assert_eq!(value(65), None); // the version has no scale
+    /// assert_eq!(value(82), None); // a mark
+    /// ```
+    pub fn value(&self) -> Option<i64> {
+        match self.content {
+            Content::Reading { code, length } => to_house(self.tag, length, code).ok(),
+            Content::Mark | Content::Text(_) | Content::Carried(_) => None,
+        }
+    }
+
     /// The row that the library answers, its text or carried bytes as a part of the buffer. There is none for a kind that the library
     /// does not have, and none for a part outside the buffer.
     pub(crate) fn in_buffer(row: raw::Row, buffer: &'a [u8]) -> Option<Row<'a>> {
         let part = || buffer.get(row.place..)?.get(..row.length);
         let content = match row.kind {
-            raw::READING => Content::Reading(row.code),
+            raw::READING => Content::Reading {
+                code: row.code,
+                length: row.length,
+            },
             raw::MARK => Content::Mark,
             raw::TEXT => Content::Text(part()?),
             raw::CARRIED => Content::Carried(part()?),
@@ -45,13 +68,13 @@ impl<'a> Row<'a> {
 /// What an item holds, as the receiver sees it.
 ///
 /// ```
-/// use oysterknoll::{to_house, Content, Row};
+/// use oysterknoll::{Content, Row};
 ///
 /// fn say(row: Row) -> String {
 ///     match row.content {
-///         Content::Reading(code) => match to_house(row.tag, code) {
-///             Ok(value) => format!("item {}: {value}", row.tag),
-///             Err(_) => format!("item {}: code {code}, which has no scale", row.tag),
+///         Content::Reading { code, .. } => match row.value() {
+///             Some(value) => format!("item {}: {value}", row.tag),
+///             None => format!("item {}: code {code}, which has no scale", row.tag),
 ///         },
 ///         Content::Mark => format!("item {}: marked", row.tag),
 ///         Content::Text(bytes) => format!("item {}: {}", row.tag, String::from_utf8_lossy(bytes)),
@@ -59,13 +82,19 @@ impl<'a> Row<'a> {
 ///     }
 /// }
 ///
-/// assert_eq!(say(Row { tag: 39, content: Content::Reading(0x80) }), "item 39: -128000");
+/// let temperature = Content::Reading { code: 0x80, length: 1 };
+/// assert_eq!(say(Row { tag: 39, content: temperature }), "item 39: -128000");
 /// assert_eq!(say(Row { tag: 11, content: Content::Text(b"EO") }), "item 11: EO");
 /// ```
 #[derive(Clone, Copy, Debug, PartialEq, Eq, Hash)]
 pub enum Content<'a> {
-    /// A number, by its stored code; [`to_house`](crate::to_house) turns it into house units where the tag has a scale.
-    Reading(u64),
+    /// A number; [`Row::value`] has it in house units where the tag has a scale.
+    Reading {
+        /// The stored code.
+        code: u64,
+        /// How many bytes it has: the catalogue's width, or 2, 3 or 4 for an extended height, whose scale goes by it.
+        length: usize,
+    },
     /// The mark that stands in place of a number: what it means depends on the tag, as "off the Earth" does for corners.
     Mark,
     /// A text, by its bytes, which may be any.
@@ -83,7 +112,7 @@ pub enum Content<'a> {
 /// let mut table = [0; TABLE_WORDS];
 /// let rows = read(packet, Knowing::ALL, &mut table)?;
 /// assert_eq!(rows.len(), 3);
-/// assert_eq!(rows.get(1).map(|row| row.content), Some(Content::Reading(17)));
+/// assert_eq!(rows.get(1).map(|row| row.content), Some(Content::Reading { code: 17, length: 1 }));
 /// let tags: Vec<u64> = rows.iter().map(|row| row.tag).collect();
 /// assert_eq!(tags, [2, 65, 1]);
 /// # Ok::<(), oysterknoll::Refusal>(())

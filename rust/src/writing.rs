@@ -76,12 +76,12 @@ pub fn write_with(
 /// Writes these rows as a packet at the front of `out`, and answers its number of bytes: [`write()`] without words and places.
 ///
 /// The first row is the time stamp and the last the checksum, whose code is worked out whatever the row says; the version is among
-/// them. Words and values are put together on the stack, which takes 12 KB beside what the library needs.
+/// them. A reading has the length that its item allows. Words and values are put together on the stack, which takes 12 KB beside what the library needs.
 ///
 /// # Errors
 ///
-/// The writer's refusals: 1, 16, 17, 3, 9, 10, 12 to 15 and 18, in this order; the place is a row number. A text or carried value of
-/// 65,536 bytes or more has no row in words and is a bad row.
+/// The writer's refusals: 1, 16, 17, 3, 9, 10, 12 to 15 and 18, in this order; the place is a row number. A value of 65,536 bytes or more
+/// has no row in words and is a bad row.
 ///
 /// # Example
 ///
@@ -89,15 +89,16 @@ pub fn write_with(
 /// use oysterknoll::{check, to_code, write_rows, Content, Knowing, Row, LONGEST_PACKET};
 ///
 /// let rows = [
-///     Row { tag: 2, content: Content::Reading(1_779_178_530_250_000) }, // microseconds
-///     Row { tag: 65, content: Content::Reading(17) },
+///     Row { tag: 2, content: Content::Reading { code: 1_779_178_530_250_000, length: 8 } }, // microseconds
+///     Row { tag: 65, content: Content::Reading { code: 17, length: 1 } },
 ///     Row { tag: 3, content: Content::Text(b"TOWER 17 NORTH") },
-///     Row { tag: 13, content: Content::Reading(to_code(13, 468_995_000)?) }, // 46.8995 degrees
-///     Row { tag: 1, content: Content::Reading(0) },
+///     Row { tag: 13, content: Content::Reading { code: to_code(13, 4, 468_995_000)?, length: 4 } }, // 46.8995 degrees
+///     Row { tag: 104, content: Content::Reading { code: to_code(104, 3, 690_065)?, length: 3 } }, // 690.065 m
+///     Row { tag: 1, content: Content::Reading { code: 0, length: 2 } },
 /// ];
 /// let mut out = [0; LONGEST_PACKET];
 /// let size = write_rows(&rows, Knowing::ALL, &mut out)?;
-/// assert_eq!(check(&out[..size], Knowing::ALL)?.count, 5);
+/// assert_eq!(check(&out[..size], Knowing::ALL)?.count, 6);
 /// # Ok::<(), oysterknoll::Refusal>(())
 /// ```
 pub fn write_rows(rows: &[Row<'_>], knowing: Knowing, out: &mut [u8]) -> Result<usize, Refusal> {
@@ -127,7 +128,7 @@ const NO_KIND: u64 = 0;
 fn value_of<'a>(row: &Row<'a>) -> &'a [u8] {
     match row.content {
         Content::Text(bytes) | Content::Carried(bytes) => bytes,
-        Content::Reading(_) | Content::Mark => &[],
+        Content::Reading { .. } | Content::Mark => &[],
     }
 }
 
@@ -146,13 +147,15 @@ fn longest_value<'a>(rows: &[Row<'a>]) -> &'a [u8] {
     values.max_by_key(|value| value.len()).unwrap_or_default()
 }
 
-/// The four words of a row whose text or carried value stands at the place. A number has the catalogue's length and place 0.
+/// The four words of a row whose text or carried value stands at the place. A number has place 0, a mark the catalogue's length.
 fn image_of(row: &Row<'_>, place: usize) -> [u64; WORDS_A_ROW] {
     let tag = row.tag;
-    let width = raw::item(tag).width;
     let (kind, code, place, length) = match row.content {
-        Content::Reading(code) => (raw::READING, code, 0, width),
-        Content::Mark => (raw::MARK, mark_code(width), 0, width),
+        Content::Reading { code, length } => (raw::READING, code, 0, length),
+        Content::Mark => {
+            let width = raw::item(tag).width;
+            (raw::MARK, mark_code(width), 0, width)
+        }
         Content::Text(bytes) => (raw::TEXT, 0, place, bytes.len()),
         Content::Carried(bytes) => (raw::CARRIED, 0, place, bytes.len()),
     };

@@ -1,5 +1,7 @@
 //! What the crate answers for the stored packets, at the ends of what can be lent to it, and on refusals.
 
+#[path = "api/extended.rs"]
+mod extended;
 #[path = "api/present.rs"]
 mod present;
 #[path = "api/values.rs"]
@@ -64,14 +66,14 @@ fn count(packet: &[u8]) -> Result<usize, Refusal> {
 
 /// The accepted samples.
 fn accepted() -> Vec<Vec<u8>> {
-    ["smallest", "tower", "relayed", "offsets"]
+    ["smallest", "tower", "relayed", "offsets", "tower_extended"]
         .map(sample)
         .into()
 }
 
 #[test]
 fn stored_packets_are_listed() {
-    for (name, least) in [("samples", 17), ("tests/list", 1)] {
+    for (name, least) in [("samples", 18), ("tests/list", 1)] {
         let packets = listed(name);
         assert!(packets.len() >= least, "{name}: packets are missing");
         for (packet, stored) in packets {
@@ -217,7 +219,11 @@ fn rows_hold_the_four_kinds_of_content() {
     let packet = sample("tower");
     let mut table = [0; TABLE_WORDS];
     let rows = read(&packet, Knowing::ALL, &mut table).unwrap();
-    assert_eq!(contents(rows, 39), [Reading(0xfc)]);
+    let temperature = Reading {
+        code: 0xfc,
+        length: 1,
+    };
+    assert_eq!(contents(rows, 39), [temperature]);
     assert_eq!(contents(rows, 82), [Mark]);
     assert_eq!(contents(rows, 59), [Text(b"OYSTER 1")]);
     let twice = [Carried(b"\x0b\x02EO"), Carried(b"\x0b\x02IR")];
@@ -314,28 +320,29 @@ fn an_output_has_exactly_room_or_is_left_as_it_was() {
 #[test]
 fn worked_values_are_turned_both_ways() {
     let worked = [
-        (18, 0x724a_0a20, 1_607_192_114),
-        (19, 0x87f8_4b86, -1_687_923_248),
-        (21, 0x0383_0926, 68_590_983),
-        (64, 0xddc5, 3_118_681_621),
-        (26, 0x8001, -750_000),
-        (26, 0x7fff, 750_000),
-        (26, 1, 23),
-        (39, 0x80, -128_000),
-        (15, 0, -900_000),
-        (15, 0xffff, 19_000_000),
-        (67, 0x85a1_5a39, -860_412_073),
+        (18, 4, 0x724a_0a20, 1_607_192_114),
+        (19, 4, 0x87f8_4b86, -1_687_923_248),
+        (21, 4, 0x0383_0926, 68_590_983),
+        (64, 2, 0xddc5, 3_118_681_621),
+        (26, 2, 0x8001, -750_000),
+        (26, 2, 0x7fff, 750_000),
+        (26, 2, 1, 23),
+        (39, 1, 0x80, -128_000),
+        (15, 2, 0, -900_000),
+        (15, 2, 0xffff, 19_000_000),
+        (67, 4, 0x85a1_5a39, -860_412_073),
     ];
-    for (tag, code, value) in worked {
-        assert_eq!(to_house(tag, code), Ok(value));
+    for (tag, length, code, value) in worked {
+        assert_eq!(to_house(tag, length, code), Ok(value));
     }
-    assert_eq!((to_code(36, 10_000), to_code(36, 9_999)), (Ok(26), Ok(25)));
-    assert_eq!(to_code(26, -375_000), Ok(0xc000));
-    assert_eq!(refused(to_house(26, 0x8000)), (20, 0, 26));
-    assert_eq!(refused(to_house(26, u64::MAX)), (20, 0, 26));
-    assert_eq!(refused(to_code(26, i64::MIN)), (21, 0, 26));
-    assert_eq!(refused(to_house(2, 0)), (19, 0, 2));
-    assert_eq!(refused(to_code(u64::MAX, 0)), (19, 0, u64::MAX));
+    assert_eq!(to_code(36, 1, 10_000), Ok(26));
+    assert_eq!(to_code(36, 1, 9_999), Ok(25));
+    assert_eq!(to_code(26, 2, -375_000), Ok(0xc000));
+    assert_eq!(refused(to_house(26, 2, 0x8000)), (20, 0, 26));
+    assert_eq!(refused(to_house(26, 2, u64::MAX)), (20, 0, 26));
+    assert_eq!(refused(to_code(26, 2, i64::MIN)), (21, 0, 26));
+    assert_eq!(refused(to_house(2, 8, 0)), (19, 0, 2));
+    assert_eq!(refused(to_code(u64::MAX, 8, 0)), (19, 0, u64::MAX));
 }
 
 #[test]
@@ -352,6 +359,13 @@ fn heights_keep_their_kind() {
     );
     assert_eq!(frame_centre_height(&tower, old), sea_level(601_572));
     assert_eq!(sensor_height(&tower, old.without(15)), Ok(Height::Missing));
+    // Of the newer drone's packet: by 104, then by 75, then by 15.
+    let newer = sample("tower_extended");
+    assert_eq!(sensor_height(&newer, Knowing::ALL), ellipsoid(690_063));
+    let older = Knowing::ALL.without(104);
+    assert_eq!(sensor_height(&newer, older), ellipsoid(689_935));
+    assert_eq!(sensor_height(&newer, older.without(75)), sea_level(641_958));
+    assert_eq!(sensor_height(&newer, old), ellipsoid(690_063));
     assert_eq!(
         frame_centre_height(&tower, old.without(25)),
         Ok(Height::Missing)
@@ -407,7 +421,7 @@ fn knowing_sets_are_two_words() {
     let (low, high) = Knowing::ALL.words();
     assert_eq!(Knowing::from_words(low, high), Knowing::ALL);
     let known = (0..200).filter(|tag| Knowing::ALL.knows(*tag));
-    assert_eq!(known.count(), 64);
+    assert_eq!(known.count(), 67);
     for tag in 0..128 {
         let only = Knowing::from_words(0, 0).with(tag);
         assert_eq!(

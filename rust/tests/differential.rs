@@ -14,6 +14,8 @@ mod conversions;
 mod damage;
 #[path = "differential/demands.rs"]
 mod demands;
+#[path = "differential/extended.rs"]
+mod extended;
 #[path = "differential/laws.rs"]
 mod laws;
 #[path = "differential/lent.rs"]
@@ -323,21 +325,22 @@ fn every_tag_of_the_catalogue() {
 #[test]
 fn every_code_of_one_and_two_bytes() {
     let mut comparer = Comparer::new(Twin::TRUE);
-    for (tag, scale) in scaled(16) {
-        for code in 0..1 << scale.bits {
-            must_hold(code_agrees(&mut comparer, tag, scale, code));
+    for told in scaled(16) {
+        for code in 0..1 << told.scale.bits {
+            must_hold(code_agrees(&mut comparer, told, code));
         }
     }
     report("every code of one and two bytes", &comparer.tally);
-    assert_eq!(comparer.tally.cases, 25 * 65_536 + 6 * 256);
+    // Three of them are the extended heights of two bytes.
+    assert_eq!(comparer.tally.cases, 28 * 65_536 + 6 * 256);
 }
 
 #[test]
 fn every_value_of_one_byte() {
     let mut comparer = Comparer::new(Twin::TRUE);
-    for (tag, scale) in scaled(8) {
-        for value in scale.low - 2..=scale.high + 2 {
-            must_hold(value_agrees(&mut comparer, tag, scale, value));
+    for told in scaled(8) {
+        for value in told.scale.low - 2..=told.scale.high + 2 {
+            must_hold(value_agrees(&mut comparer, told, value));
         }
     }
     report("every value of one byte", &comparer.tally);
@@ -346,12 +349,12 @@ fn every_value_of_one_byte() {
 #[test]
 fn every_edge() {
     let mut comparer = Comparer::new(Twin::TRUE);
-    for (tag, scale) in scaled(32) {
-        for code in edge_codes(scale) {
-            must_hold(code_agrees(&mut comparer, tag, scale, code));
+    for told in scaled(32) {
+        for code in edge_codes(told.scale) {
+            must_hold(code_agrees(&mut comparer, told, code));
         }
-        for value in edge_values(scale) {
-            must_hold(value_agrees(&mut comparer, tag, scale, value));
+        for value in edge_values(told.scale) {
+            must_hold(value_agrees(&mut comparer, told, value));
         }
     }
     report("every edge", &comparer.tally);
@@ -361,21 +364,22 @@ fn every_edge() {
 fn every_tag_without_scale() {
     let mut comparer = Comparer::new(Twin::TRUE);
     let small = (0..20_000).chain(2_097_000..2_097_200);
-    for tag in small.filter(|&tag| Scale::of(tag).is_none()) {
-        must_hold(comparer.house_of(tag, 1));
-        must_hold(comparer.code_of(tag, 1));
+    for tag in small.filter(|&tag| Scale::of(tag, 2).is_none()) {
+        must_hold(comparer.house_of(tag, 2, 1));
+        must_hold(comparer.code_of(tag, 2, 1));
     }
     report("every tag without scale", &comparer.tally);
     assert_eq!(comparer.tally.accepted, 0);
 }
 
+/// An extended height is sent as the code at or below, so that half way between two codes is no tie; `extended` has its ties.
 #[test]
 fn every_tie() {
     let mut comparer = Comparer::new(Twin::TRUE);
-    for (tag, scale) in scaled(32) {
-        for tie in ties(scale) {
+    for told in scaled(32).filter(|told| !told.scale.extended) {
+        for tie in ties(told.scale) {
             for value in tie - 1..=tie + 1 {
-                must_hold(value_agrees(&mut comparer, tag, scale, value));
+                must_hold(value_agrees(&mut comparer, told, value));
             }
         }
     }

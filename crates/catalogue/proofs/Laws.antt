@@ -68,7 +68,7 @@ rightRow e t = small (e .3) && (small (e .4) && (small (e .3 +ℤ e .4) && sameF
 placed : ℕ → Bool
 placed t =
     cond (holds allTags t)
-    (ltb (countBelow allTags t) 64 && rightRow (entryAt (countBelow allTags t)) t)
+    (ltb (countBelow allTags t) 67 && rightRow (entryAt (countBelow allTags t)) t)
     (sameFound Absent (itemOf t))
 
 all-placed : allBelow placed 128 ≡ true
@@ -98,7 +98,7 @@ right-row t e p =
     }
 
 pub record Held (t at : ℕ) : Type 0 where
-  pub inside : at < 64
+  pub inside : at < 67
   pub right : Right t (entryAt at)
 
 pub item-held : (t : ℕ) → holds allTags t ≡ true → Held t (countBelow allTags t)
@@ -109,8 +109,8 @@ item-held t e =
     let at = countBelow allTags t in
     let p = rw e at (all-below placed 128 all-placed t h) in
     record {
-      inside = ltb-true at 64 (both-left (ltb at 64) _ p);
-      right = right-row t (entryAt at) (both-right (ltb at 64) _ p);
+      inside = ltb-true at 67 (both-left (ltb at 67) _ p);
+      right = right-row t (entryAt at) (both-right (ltb at 67) _ p);
     })
     (λ h. clash (sym e ∙ holds-none allTags all-words t h))
 

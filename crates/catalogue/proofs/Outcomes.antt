@@ -6,10 +6,16 @@ use Rattle.catalogue.proofs.all_tags.Kinds as all-tags-kinds
 use Rattle.catalogue.proofs.all_tags.Reads as all-tags-reads
 use Rattle.catalogue.proofs.shapes.Kinds as shapes-kinds
 use Rattle.catalogue.proofs.shapes.Reads as shapes-reads
+use Rattle.catalogue.proofs.widths.Kinds as widths-kinds
+use Rattle.catalogue.proofs.widths.Reads as widths-reads
 use Rattle.catalogue.proofs.shape_at.Kinds as shape-at-kinds
 use Rattle.catalogue.proofs.shape_at.Reads as shape-at-reads
 use Rattle.catalogue.proofs.allows_length.Kinds as allows-length-kinds
 use Rattle.catalogue.proofs.allows_length.Reads as allows-length-reads
+use Rattle.catalogue.proofs.is_extended.Kinds as is-extended-kinds
+use Rattle.catalogue.proofs.is_extended.Reads as is-extended-reads
+use Rattle.catalogue.proofs.is_in_reach.Kinds as is-in-reach-kinds
+use Rattle.catalogue.proofs.is_in_reach.Reads as is-in-reach-reads
 use Rattle.catalogue.proofs.limits_codes.Kinds as limits-codes-kinds
 use Rattle.catalogue.proofs.limits_codes.Reads as limits-codes-reads
 use Rattle.catalogue.proofs.allows_code.Kinds as allows-code-kinds
@@ -20,6 +26,9 @@ all-tags-determined κs a z z′ e e′ p q = p ∙ sym q
 
 pub shapes-determined : Answered 0 shapes-kinds.ps shapes-kinds.r shapes-reads.Post
 shapes-determined κs a z z′ e e′ p q = p ∙ sym q
+
+pub widths-determined : Answered 0 widths-kinds.ps widths-kinds.r widths-reads.Post
+widths-determined κs a z z′ e e′ p q = p ∙ sym q
 
 pub shape-at-determined : Answered 1 shape-at-kinds.ps shape-at-kinds.r shape-at-reads.Post
 shape-at-determined κs a z z′ e e′ p q = p ∙ sym q
@@ -32,3 +41,9 @@ allows-code-determined κs a z z′ e e′ p q = p ∙ sym q
 
 pub limits-codes-determined : Answered 0 limits-codes-kinds.ps limits-codes-kinds.r limits-codes-reads.Post
 limits-codes-determined κs a z z′ e e′ p q = p ∙ sym q
+
+pub is-extended-determined : Answered 0 is-extended-kinds.ps is-extended-kinds.r is-extended-reads.Post
+is-extended-determined κs a z z′ e e′ p q = p ∙ sym q
+
+pub is-in-reach-determined : Answered 0 is-in-reach-kinds.ps is-in-reach-kinds.r is-in-reach-reads.Post
+is-in-reach-determined κs a z z′ e e′ p q = p ∙ sym q

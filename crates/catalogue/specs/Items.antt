@@ -11,7 +11,7 @@ use Rattle.catalogue.specs.declared.Found.the-variants.{Known, Absent}
 use Rattle.catalogue.specs.declared.Unit.{Unit}
 use Rattle.catalogue.specs.declared.Unit.the-variants.{None, Degree, Metre, MetrePerSecond, Millibar, Percent, Celsius, Microsecond}
 
--- items that are stored alike: so many bytes, with or without sign, from low to high in house units of the unit
+-- items that are stored alike: so many bytes (0 where that is not fixed), with or without sign, from low to high in house units of the unit
 pub record Group : Type 0 where
   pub unit : Unit
   pub tags : List ℕ
@@ -38,6 +38,10 @@ i unit tags width high = record { unit = unit; tags = tags; width = width; sign 
 -- without scale
 abbrev plain : Unit → List ℕ → ℕ → Group
 plain unit tags width = u unit tags width (pos 0) 0
+
+-- W-202: "items 103, 104 and 105 by MISB ST 1201 IMAPB, -900 to 40,000 m"; without a width of its own, since "lengths 2, 3 and 4" are accepted
+abbrev extended : List ℕ → Group
+extended tags = u Metre tags 0 (negℤ (pos (thousandths 900))) (thousandths 40000)
 
 -- any bytes
 abbrev text : List ℕ → Group
@@ -67,6 +71,7 @@ groups =
     ∷ plain None (1 ∷ []) 2
     ∷ plain Microsecond (2 ∷ []) 8
     ∷ plain None (65 ∷ 34 ∷ 63 ∷ []) 1
+    ∷ extended (103 ∷ 104 ∷ 105 ∷ [])
     ∷ text (3 ∷ 4 ∷ 10 ∷ 11 ∷ 12 ∷ 59 ∷ 70 ∷ [])
     ∷ []
 

@@ -1,4 +1,5 @@
 pub mod Items
+pub mod Extended
 pub mod Shapes
 pub mod Rows
 pub mod code

@@ -1,8 +1,11 @@
 -- Which lengths and which codes an item allows.
 use Prim.Native.Nat.{ℕ}
 use mathlib.Core.Bool.{Bool, true, false, cond, _&&_, _||_}
-use lib.Dec.{ltb, eqb}
+use lib.Dec.{ltb, leb, eqb}
+use lib.Signed.{ltZ}
 use Rattle.catalogue.specs.Items.{itemOf}
+use Rattle.catalogue.specs.Extended.{isExtended, inReach}
+use Rattle.catalogue.specs.declared.Item.{Item}
 use Rattle.catalogue.specs.declared.Sign.{Sign}
 use Rattle.catalogue.specs.declared.Sign.the-variants.{Unsigned, Signed, Marked}
 use Rattle.catalogue.specs.declared.Found.{Found}
@@ -15,27 +18,32 @@ isMarked Unsigned = false
 isMarked Signed = false
 isMarked Marked = true
 
--- "Text of 1 to 127 bytes, any bytes"; a number has its width
+-- a number has its width; what has none is a text, or with a scale an extended height: W-202, "Accept lengths 2, 3 and 4."
+abbrev pub unfixed : Item → Shape
+unfixed i = cond (ltZ (i .low) (i .high)) (Number 2 4 false) Text
+
 abbrev pub shapeBy : Found → Shape
-shapeBy (Known i) = cond (eqb (i .width) 0) Text (Number (i .width) (isMarked (i .sign)))
+shapeBy (Known i) = cond (eqb (i .width) 0) (unfixed i) (Number (i .width) (i .width) (isMarked (i .sign)))
 shapeBy Found.Absent = Shape.Absent
 
 unfoldable pub shapeOf : ℕ → Shape
 shapeOf t = shapeBy (itemOf t)
 
+-- "Text of 1 to 127 bytes, any bytes"
 abbrev pub shapeAllows : Shape → ℕ → Bool
 shapeAllows Text n = ltb 0 n && ltb n 128
-shapeAllows (Number width marked) n = eqb n width
+shapeAllows (Number least most marked) n = leb least n && leb n most
 shapeAllows Shape.Absent n = false
 
 -- whether a tag allows a length
 unfoldable pub lengthAllowed : ℕ → ℕ → Bool
 lengthAllowed t n = shapeAllows (shapeOf t) n
 
--- whether a tag allows a code of a length: "34 (u8, codes 0 to 2), 63 (u8, codes 0 to 8)", which allow one length each
+-- whether a tag allows a code of a length: "34 (u8, codes 0 to 2), 63 (u8, codes 0 to 8)", which allow one length each; W-202 adds "14 for a
+-- code beyond 40,000 m"
 unfoldable pub codeAllowed : ℕ → ℕ → ℕ → Bool
-codeAllowed t n code = cond (eqb t 34) (ltb code 3) (cond (eqb t 63) (ltb code 9) true)
+codeAllowed t n code = cond (eqb t 34) (ltb code 3) (cond (eqb t 63) (ltb code 9) (cond (isExtended t) (inReach n code) true))
 
 -- the tags that do not allow every code
 unfoldable pub codesLimited : ℕ → Bool
-codesLimited t = eqb t 34 || eqb t 63
+codesLimited t = eqb t 34 || (eqb t 63 || isExtended t)

@@ -2,8 +2,9 @@
 // Every answer is that of document 01's groups, in constant time, for every tag of 64 bits.
 ghost use mathlib.Core.Path.{_≡_};
 ghost use Rattle.catalogue.specs.Rows.{allTags};
+ghost use Rattle.catalogue.specs.Extended.{isExtended, inReach};
 ghost use Rattle.catalogue.specs.Shapes.{shapeAllows, codesLimited, codeAllowed};
-ghost use Rattle.catalogue.specs.code.Column.{shapeColumn, shapeIn};
+ghost use Rattle.catalogue.specs.code.Column.{shapeColumn, widthColumn, shapeIn};
 use tagset::TagSet;
 
 // How the codes of a number are read: as they stand, in two's complement, or in two's complement with the lowest one a mark.
@@ -13,7 +14,8 @@ pub enum Sign {
     Marked,
 }
 
-// An item. Width is in bytes, 0 for text; low equals high where there is no scale.
+// An item. Width is in bytes, 0 where it is not fixed: for text, which has no scale, and for an extended height (W-202), which has one.
+// Low equals high where there is no scale.
 pub struct Item {
     pub tag: u64,
     pub width: usize,
@@ -39,10 +41,14 @@ pub enum Unit {
     Microsecond,
 }
 
-// How a value is stored: as text, or as a number of so many bytes, whose lowest code is a mark or not.
+// How a value is stored: as text, or as a number of at least and at most so many bytes, whose lowest code is a mark or not.
 pub enum Shape {
     Text,
-    Number { width: usize, marked: bool },
+    Number {
+        least: usize,
+        most: usize,
+        marked: bool,
+    },
     Absent,
 }
 
@@ -56,12 +62,13 @@ pub fn all_tags() -> TagSet
 {
     TagSet {
         low: 0x8b80_00ff_ffff_fffe,
-        high: 0x0ffd_c8db,
+        high: 0x0380_0ffd_c8db,
     }
 }
 
-// A tag's shape as a byte: the width of a number in the low four bits, above them document 01's kind (1 a reading, 3 text, 4 carried, for
-// what is not in the table), 0x80 more where the number has a mark. A line has sixteen tags, from 0 on.
+// A tag's shape as a byte: in the low four bits a mask within which every length of a number lies, its width or 7 for an extended height; above
+// them document 01's kind (1 a reading, 3 text, 4 carried, for what is not in the table), 0x80 more where the number has a mark. A line has
+// sixteen tags, from 0 on.
 const COLUMN: [u8; 128] = *b"\
     \x40\x12\x18\x30\x30\x12\x92\x92\x11\x11\x30\x30\x30\x94\x94\x12\
     \x12\x12\x14\x94\x14\x14\x12\x94\x94\x12\x92\x92\x92\x92\x92\x92\
@@ -69,7 +76,7 @@ const COLUMN: [u8; 128] = *b"\
     \x40\x40\x40\x40\x40\x40\x40\x11\x11\x14\x40\x30\x40\x40\x40\x11\
     \x12\x11\x40\x94\x94\x40\x30\x12\x40\x40\x40\x12\x40\x40\x12\x92\
     \x92\x40\x94\x94\x94\x94\x94\x94\x94\x94\x94\x94\x40\x40\x40\x40\
-    \x40\x40\x40\x40\x40\x40\x40\x40\x40\x40\x40\x40\x40\x40\x40\x40\
+    \x40\x40\x40\x40\x40\x40\x40\x17\x17\x17\x40\x40\x40\x40\x40\x40\
     \x40\x40\x40\x40\x40\x40\x40\x40\x40\x40\x40\x40\x40\x40\x40\x40\
 ";
 
@@ -80,10 +87,38 @@ pub fn shapes() -> [u8; 128]
     COLUMN
 }
 
-// The shape that a column of shapes has for a tag; from 128 on there is none.
+// The widths alone, for a glance: 0 for text and for what is not in the table, and 0x80 where a closer look is asked for, at an extended height
+// and at tag 0, which no item has.
+const WIDTHS: [u8; 128] = *b"\
+    \x80\x02\x08\x00\x00\x02\x02\x02\x01\x01\x00\x00\x00\x04\x04\x02\
+    \x02\x02\x04\x04\x04\x04\x02\x04\x04\x02\x02\x02\x02\x02\x02\x02\
+    \x02\x02\x01\x02\x01\x02\x02\x01\x00\x00\x00\x00\x00\x00\x00\x00\
+    \x00\x00\x00\x00\x00\x00\x00\x01\x01\x04\x00\x00\x00\x00\x00\x01\
+    \x02\x01\x00\x04\x04\x00\x00\x02\x00\x00\x00\x02\x00\x00\x02\x02\
+    \x02\x00\x04\x04\x04\x04\x04\x04\x04\x04\x04\x04\x00\x00\x00\x00\
+    \x00\x00\x00\x00\x00\x00\x00\x80\x80\x80\x00\x00\x00\x00\x00\x00\
+    \x00\x00\x00\x00\x00\x00\x00\x00\x00\x00\x00\x00\x00\x00\x00\x00\
+";
+
+// The widths of all tags below 128.
+pub fn widths() -> [u8; 128]
+    ensures { λ r. ⌜ r ≡ widthColumn ⌝ }
+{
+    WIDTHS
+}
+
+// The shape that a column of shapes has for a tag. The lengths of an extended height go by its tag, so that all else is seen to have one; from 128
+// on there is none.
 pub fn shape_at(column: &[u8; 128], tag: u64) -> Shape
     ensures { λ r. ⌜ r ≡ shapeIn (now (column .entry)) tag ⌝ }
 {
+    if is_extended(tag) {
+        return Shape::Number {
+            least: 2,
+            most: 4,
+            marked: false,
+        };
+    }
     if 128 <= tag {
         return Shape::Absent;
     }
@@ -96,8 +131,10 @@ pub fn shape_at(column: &[u8; 128], tag: u64) -> Shape
     if kind == 3 {
         return Shape::Text;
     }
+    let width = (byte % 16) as usize;
     Shape::Number {
-        width: (byte % 16) as usize,
+        least: width,
+        most: width,
         marked: 128 <= byte,
     }
 }
@@ -113,9 +150,32 @@ pub fn allows_length(shape: Shape, n: usize) -> bool
             }
             false
         }
-        Shape::Number { width, marked: _ } => n == width,
+        Shape::Number {
+            least,
+            most,
+            marked: _,
+        } => {
+            // most numbers have one length
+            if n == most {
+                return least <= n;
+            }
+            if least <= n {
+                return n < most;
+            }
+            false
+        }
         Shape::Absent => false,
     }
+}
+
+// Whether a tag is that of an extended height.
+pub fn is_extended(tag: u64) -> bool
+    ensures { λ r. ⌜ r ≡ isExtended tag ⌝ }
+{
+    if 103 <= tag {
+        return tag <= 105;
+    }
+    false
 }
 
 // Whether an item takes only some of its codes.
@@ -125,18 +185,38 @@ pub fn limits_codes(tag: u64) -> bool
     if tag == 34 {
         return true;
     }
-    tag == 63
+    if tag == 63 {
+        return true;
+    }
+    is_extended(tag)
 }
 
-// Whether an item may have a code: 34 goes from 0 to 2 and 63 from 0 to 8, every other takes all.
+// Whether an extended height of so many bytes may have a code: up to that of 40,000 m, which has more zeros the more bytes there are.
+pub fn is_in_reach(size: usize, code: u64) -> bool
+    ensures { λ r. ⌜ r ≡ inReach size code ⌝ }
+{
+    if 2 <= size {
+        if size <= 4 {
+            return code <= 20_450 << (8 * size - 16);
+        }
+    }
+    false
+}
+
+// Whether an item may have a code: 34 goes from 0 to 2, 63 from 0 to 8, an extended height up to 40,000 m, and every other takes all.
 pub fn allows_code(tag: u64, size: usize, code: u64) -> bool
     ensures { λ r. ⌜ r ≡ codeAllowed tag size code ⌝ }
 {
-    if tag == 34 {
-        return code < 3;
+    // most tags are below 64, and are not asked whether they are extended heights
+    if 63 < tag {
+        if is_extended(tag) {
+            return is_in_reach(size, code);
+        }
+        return true;
     }
-    if tag == 63 {
-        return code < 9;
+    match tag {
+        34 => code < 3,
+        63 => code < 9,
+        _ => true,
     }
-    true
 }

@@ -9,9 +9,11 @@ use Rattle.base.proofs.Cases.{never}
 use Rattle.refusal.specs.Answer.{given}
 use Rattle.rows.specs.declared.RowWords.{RowWords}
 use Rattle.ground.specs.Values.{valueFor, Small}
-use Rattle.ground.specs.Ground.{heightBy, heightIn, CornerSeen, noCorner, offTheEarth, on, fullCorner, offsetCorner, otherwise, cornerIn}
+use Rattle.ground.specs.Ground.{heightBy, heightIn, before, sensorIn}
+use Rattle.ground.specs.Ground.{CornerSeen, noCorner, offTheEarth, on, fullCorner, offsetCorner, otherwise, cornerIn}
 use Rattle.ground.specs.Said.{cornerSaid}
 use Rattle.ground.specs.declared.Value.{Value}
+use Rattle.ground.specs.declared.Value.the-variants.{Absent}
 use Rattle.ground.specs.declared.Corner.{Corner}
 use Rattle.ground.specs.declared.Corner.the-variants as corner
 use Rattle.ground.proofs.Values.{value-small}
@@ -24,6 +26,16 @@ pub height-told : (t u : ℕ) (rs : List RowWords) (x y a b : Value) → x ≡ v
     → given (heightBy a b) ≡ given (heightIn t u rs)
 unfolding heightIn
 height-told t u rs x y a b e f g h = rw (← e, ← f, g, h)
+
+-- the extended height goes before the others
+pub sensor-told : (rs : List RowWords) (x a : Value) → x ≡ valueFor 104 rs → x ≡ a
+    → given (heightBy (before a (valueFor 75 rs)) (valueFor 15 rs)) ≡ given (sensorIn rs)
+unfolding sensorIn
+sensor-told rs x a e f = rw (← e, f)
+
+pub sensor-other : (rs : List RowWords) (x : Value) → x ≡ valueFor 104 rs → x ≡ Absent → given (heightIn 75 15 rs) ≡ given (sensorIn rs)
+unfolding sensorIn heightIn
+sensor-other rs x e f = rw (← e, f)
 
 -- a corner that is not missing decides
 abbrev pub Found : Corner → Type 0

@@ -4,11 +4,11 @@
 use Prim.Native.Nat.{ℕ, _+_, _-_, _*_, _^_}
 use native.Mathlib.Omega.{arith}
 use mathlib.Core.Path.{_≡_, sym, ap, _∙_}
-use mathlib.Core.Bool.{Bool, true, false, _&&_, _||_}
+use mathlib.Core.Bool.{Bool, true, false, _&&_}
 use mathlib.Core.Logic.{_⊎_, inl, inr, ⊎-elim}
 use mathlib.Core.List.{List, [], _∷_}
-use lib.Dec.{ltb, eqb}
-use borrow.Author.Tests.{eqb-true, eq-eqb, ne-eqb}
+use lib.Dec.{ltb, leb, eqb}
+use borrow.Author.Tests.{eqb-true, leb-true, eq-eqb, ne-eqb}
 use Rattle.base.proofs.Cases.{byBool, byEq, clash}
 use Rattle.base.specs.Every.{Each}
 use Rattle.base.proofs.Every.{both-left, both-right}
@@ -18,14 +18,14 @@ use Rattle.tagset.specs.Sets.{holds}
 use Rattle.tagset.specs.declared.TagSet.{TagSet}
 use Rattle.knowing.specs.Good.{good}
 use Rattle.catalogue.specs.Items.{groups, member, itemIn, itemOf}
-use Rattle.catalogue.specs.Shapes.{isMarked, shapeOf}
+use Rattle.catalogue.specs.Shapes.{isMarked, shapeOf, shapeAllows}
 use Rattle.catalogue.specs.declared.Item.{Item}
 use Rattle.catalogue.specs.declared.Found.{Found}
 use Rattle.catalogue.specs.declared.Found.the-variants.{Known, Absent as Unlisted}
 use Rattle.catalogue.specs.declared.Shape.the-variants.{Number}
 use Rattle.rows.specs.Meaning.{shapeFor, markCode, kindFor, isNumber as number}
 use Rattle.rows.specs.declared.RowWords.{RowWords}
-use Rattle.rows.specs.Taken.{partLength, rowGood, tagGood, rowSays, GoodRow}
+use Rattle.rows.specs.Taken.{partLength, codeGood, rowGood, tagGood, rowSays, GoodRow}
 use Rattle.packet.specs.Pieces as pieces
 use Rattle.packet.specs.Judge.{Knowing}
 use Rattle.packet.specs.Verdict.{received}
@@ -74,7 +74,7 @@ module _ (K : Knowing) (b : List ℕ) (t : ℕ) (i : Item) (knows : K t ≡ true
       (λ z. let e : half i + half i ≡ codes i = scaled-rule s .halves in absurd (omega (arith, rw z at e)))
       (λ n. ne-eqb _ _ n)
 
-  pub shape-is : shapeFor K t ≡ Number (i .width) (isMarked (i .sign))
+  pub shape-is : shapeFor K t ≡ Number (i .width) (i .width) (isMarked (i .sign))
   unfolding shapeFor shapeOf
   shape-is = rw (knows, s .known, some-bytes)
 
@@ -83,21 +83,30 @@ module _ (K : Knowing) (b : List ℕ) (t : ℕ) (i : Item) (knows : K t ≡ true
 
   -- a row of the tag that is not bad is a mark or a number
   module _ (r : RowWords) (e : r .tag ≡ t) (g : GoodRow K b r) where
-    parts : (eqb (r .kind) (kindFor (Number (i .width) (isMarked (i .sign))) (r .code))
-        && (eqb (partLength (r .part)) (i .width) && (eqb (r .tag) 1 || ltb (r .code) (2 ^ (8 * i .width))))) ≡ true
+    parts : (eqb (r .kind) (kindFor (Number (i .width) (i .width) (isMarked (i .sign))) (r .code))
+        && (shapeAllows (Number (i .width) (i .width) (isMarked (i .sign))) (partLength (r .part))
+        && codeGood (r .tag) (partLength (r .part)) (r .code))) ≡ true
     unfolding rowGood
     parts = both-right (tagGood (r .tag)) _ (rw (ap (shapeFor K) e ∙ shape-is) at g)
 
-    kind-is : r .kind ≡ kindFor (Number (i .width) (isMarked (i .sign))) (r .code)
-    kind-is = eqb-true _ _ (both-left (eqb (r .kind) (kindFor (Number (i .width) (isMarked (i .sign))) (r .code))) _ parts)
+    kind-is : r .kind ≡ kindFor (Number (i .width) (i .width) (isMarked (i .sign))) (r .code)
+    kind-is = eqb-true _ _ (both-left (eqb (r .kind) (kindFor (Number (i .width) (i .width) (isMarked (i .sign))) (r .code))) _ parts)
 
     no-sum : eqb (r .tag) 1 ≡ false
     no-sum = byEq (r .tag) 1 (λ z. absurd (unscaled-sum i (rw (← z, e) s))) (λ n. ne-eqb _ _ n)
 
+    content : (shapeAllows (Number (i .width) (i .width) (isMarked (i .sign))) (partLength (r .part))
+        && codeGood (r .tag) (partLength (r .part)) (r .code)) ≡ true
+    content = both-right (eqb (r .kind) (kindFor (Number (i .width) (i .width) (isMarked (i .sign))) (r .code))) _ parts
+
+    size-is : partLength (r .part) ≡ i .width
+    size-is =
+        let n : ℕ = partLength (r .part) in
+        let a = both-left (shapeAllows (Number (i .width) (i .width) (isMarked (i .sign))) n) _ content in
+        omega (arith, leb-true (i .width) n (both-left (leb (i .width) n) _ a), leb-true n (i .width) (both-right (leb (i .width) n) _ a))
+
     fits : ltb (r .code) (2 ^ (8 * i .width)) ≡ true
-    fits =
-        rw no-sum at
-        (both-right (eqb (partLength (r .part)) (i .width)) _ (both-right (eqb (r .kind) (kindFor (Number (i .width) (isMarked (i .sign))) (r .code))) _ parts))
+    fits = rw (no-sum, size-is) at (both-right (shapeAllows (Number (i .width) (i .width) (isMarked (i .sign))) (partLength (r .part))) _ content)
 
     mark-says : marked r ≡ true → (r .kind ≡ 2) × (valueBy r ≡ Off)
     unfolding valueBy
@@ -108,7 +117,7 @@ module _ (K : Knowing) (b : List ℕ) (t : ℕ) (i : Item) (knows : K t ≡ true
     reading-says m =
         let k : r .kind ≡ 1 = rw m at kind-is in
         let n : isNumber i (r .code) ≡ true = rw (fits, m) in
-        (k, rw (k, e, every-code-converts s (r .code) n))
+        (k, rw (k, e, every-code-converts s (partLength (r .part)) (r .code) n))
 
   value-says : (rs : List RowWords) → Each (GoodRow K b) rs → Says i t rs (valueFor t rs)
   unfolding valueFor

@@ -21,7 +21,7 @@ use Rattle.packet.specs.Verdict.{received}
 use Rattle.packet.specs.Rows.{rowOf, rowsOf}
 use Rattle.laws.proofs.Receivers.{received-larger}
 use Rattle.ground.specs.Values.{valueFor}
-use Rattle.ground.specs.Ground.{heightIn, fullCorner, offsetCorner, cornerIn, fromRows, sensorHeight, frameCentreHeight, cornerOf}
+use Rattle.ground.specs.Ground.{heightIn, sensorIn, fullCorner, offsetCorner, cornerIn, fromRows, sensorHeight, frameCentreHeight, cornerOf}
 
 -- the rows of two receivers say the same of a tag on which they agree
 pub same-value : (K K′ : Knowing) (t : ℕ) → K t ≡ K′ t → (is : List Item) → valueFor t (rowsOf K is) ≡ valueFor t (rowsOf K′ is)
@@ -39,6 +39,10 @@ LooksAt ts f = (rs ss : List RowWords) → Each (λ t. valueFor t rs ≡ valueFo
 pub height-looks : (a b : ℕ) → LooksAt (a ∷ b ∷ []) (heightIn a b)
 unfolding heightIn
 height-looks a b rs ss e = rw (e .0, e .1 .0)
+
+pub sensor-looks : LooksAt (104 ∷ 75 ∷ 15 ∷ []) sensorIn
+unfolding sensorIn
+sensor-looks rs ss e = rw (e .0, e .1 .0, e .1 .1 .0)
 
 abbrev pub cornerTags : ℕ → List ℕ
 cornerTags k = (80 + 2 * k) ∷ (81 + 2 * k) ∷ (24 + 2 * k) ∷ (25 + 2 * k) ∷ 23 ∷ 24 ∷ []
@@ -61,8 +65,8 @@ module _ (K K′ : TagSet) (g : good K ≡ true) (g′ : good K′ ≡ true) (wi
   same-answer ts f looks a =
       rw (received-larger K K′ g g′ within p is accepts, accepts, looks (rowsOf (holds K) is) (rowsOf (holds K′) is) (values ts a))
 
-  pub sensor-height-agrees : Agree (75 ∷ 15 ∷ []) → sensorHeight K p ≡ sensorHeight K′ p
-  sensor-height-agrees = same-answer (75 ∷ 15 ∷ []) (heightIn 75 15) (height-looks 75 15)
+  pub sensor-height-agrees : Agree (104 ∷ 75 ∷ 15 ∷ []) → sensorHeight K p ≡ sensorHeight K′ p
+  sensor-height-agrees = same-answer (104 ∷ 75 ∷ 15 ∷ []) sensorIn sensor-looks
 
   pub frame-centre-height-agrees : Agree (78 ∷ 25 ∷ []) → frameCentreHeight K p ≡ frameCentreHeight K′ p
   frame-centre-height-agrees = same-answer (78 ∷ 25 ∷ []) (heightIn 78 25) (height-looks 78 25)

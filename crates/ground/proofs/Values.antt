@@ -23,16 +23,16 @@ use Rattle.ground.specs.declared.Value.{Value}
 use Rattle.ground.specs.declared.Value.the-variants.{At}
 
 -- what a row says is small enough to be added
-house-is-small : (t code : ℕ) (a : Answer House) → toHouse t code ≡ a → Small (inHouse a)
-house-is-small t code (given h) e = house-small t code h e
-house-is-small t code (refused n p u) e = tt
+house-is-small : (t n code : ℕ) (a : Answer House) → toHouse t n code ≡ a → Small (inHouse a)
+house-is-small t n code (given h) e = house-small t n code h e
+house-is-small t n code (refused k p u) e = tt
 
 row-small : (r : RowWords) → Small (valueBy r)
 unfolding valueBy
 row-small r = seen-small (rowSays r)
   where
     seen-small : (m : Meaning Part) → Small (valueSeen (r .tag) m)
-    seen-small (reading code size) = house-is-small (r .tag) code (toHouse (r .tag) code) refl
+    seen-small (reading code size) = house-is-small (r .tag) size code (toHouse (r .tag) size code) refl
     seen-small (mark code size) = tt
     seen-small (text part) = tt
     seen-small (carried part) = tt

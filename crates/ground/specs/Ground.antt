@@ -31,6 +31,16 @@ heightBy Absent Absent = noHeight
 unfoldable pub heightIn : ℕ → ℕ → List RowWords → HeightSeen
 heightIn ellipsoid seaLevel rs = heightBy (valueFor ellipsoid rs) (valueFor seaLevel rs)
 
+-- of two rows over the ellipsoid the first that is present
+abbrev pub before : Value → Value → Value
+before (At mm) other = At mm
+before Off other = Off
+before Absent other = other
+
+-- "Sensor height: row 75 if present, else 15, else missing." W-202: "Item 104 goes before 75 for sensor height."
+unfoldable pub sensorIn : List RowWords → HeightSeen
+sensorIn rs = heightBy (before (valueFor 104 rs) (valueFor 75 rs)) (valueFor 15 rs)
+
 pub data CornerSeen : Type 0 where
   noCorner : CornerSeen
   offTheEarth : CornerSeen
@@ -85,7 +95,7 @@ unfoldable pub fromRows : {A : Type 0} → (List RowWords → A) → TagSet → 
 fromRows f K p = map (λ is. f (rowsOf (holds K) is)) (received K p)
 
 abbrev pub sensorHeight : TagSet → List ℕ → Answer HeightSeen
-sensorHeight = fromRows (heightIn 75 15)
+sensorHeight = fromRows sensorIn
 
 abbrev pub frameCentreHeight : TagSet → List ℕ → Answer HeightSeen
 frameCentreHeight = fromRows (heightIn 78 25)

@@ -21,7 +21,7 @@ inHouse (refused n p t) = Off
 
 -- what is seen in an item of a tag: a mark is off the Earth, a reading is in house units, text and carried bytes never count
 abbrev pub valueSeen : {A : Type 0} → ℕ → Meaning A → Value
-valueSeen tag (reading code size) = inHouse (toHouse tag code)
+valueSeen tag (reading code size) = inHouse (toHouse tag size code)
 valueSeen tag (mark code size) = Off
 valueSeen tag (text a) = Absent
 valueSeen tag (carried a) = Absent

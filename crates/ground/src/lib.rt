@@ -2,13 +2,15 @@
 // other; a mark is off the Earth and never a number.
 ghost use mathlib.Core.Path.{_≡_};
 ghost use Prim.Native.Nat.{_^_, _<_};
+ghost use mathlib.Core.Bool.{true};
 ghost use Rattle.refusal.specs.Answer.{given};
+ghost use Rattle.catalogue.specs.Extended.{isExtended};
 ghost use Rattle.scale.specs.Conversions.{toHouse};
 ghost use Rattle.ground.specs.Values.{inHouse, valueFor, Small};
-ghost use Rattle.ground.specs.Ground.{heightIn, pointOf, sumOf, fullCorner, offsetCorner, cornerIn, fromRows};
+ghost use Rattle.ground.specs.Ground.{heightIn, sensorIn, pointOf, sumOf, fullCorner, offsetCorner, cornerIn, fromRows};
 ghost use Rattle.ground.specs.Ground.{sensorHeight, frameCentreHeight, cornerOf};
 ghost use Rattle.ground.specs.Said.{heightSaid, cornerSaid};
-ghost use Rattle.ground.specs.code.Located.{Placed, rowsHeld, endIn, Like};
+ghost use Rattle.ground.specs.code.Located.{Placed, rowsHeld, placeIn, Like};
 use packet::Checked;
 use refusal::Refusal;
 use scale::ToHouse;
@@ -48,84 +50,98 @@ enum Value {
 }
 
 // A code in house units; what is no number, as a mark, is no place on the Earth.
-fn in_house(tag: u64, code: u64) -> Value
-    ensures { λ r. ⌜ r ≡ inHouse (toHouse tag code) ⌝ }
+fn in_house(tag: u64, length: usize, code: u64) -> Value
+    ensures { λ r. ⌜ r ≡ inHouse (toHouse tag length code) ⌝ }
 {
-    match scale::to_house(tag, code) {
+    match scale::to_house(tag, length, code) {
         ToHouse::Is(house) => Value::At(house.value),
         ToHouse::Refused(_) => Value::Off,
     }
 }
 
-// Where the value of a known tag ends, 0 where there is none.
-fn end_of(known: TagSet, past: &[u16; 128], tag: u64) -> usize
-    requires { ⌜ endIn known (now past) tag < 2 ^ 64 ⌝ }
-    ensures { λ r. ⌜ r ≡ endIn known (now (past .entry)) tag ⌝ }
+// Where the value of a known tag is found, 0 where there is none.
+fn place_of(known: TagSet, places: &[u16; 128], tag: u64) -> usize
+    requires { ⌜ placeIn known (now places) tag < 2 ^ 64 ⌝ }
+    ensures { λ r. ⌜ r ≡ placeIn known (now (places .entry)) tag ⌝ }
 {
     if tagset::has(known, tag) {
         let at = tag as usize;
-        return past[at] as usize;
+        return places[at] as usize;
     }
     0
 }
 
-// A height: all have the scale of 15, which stands here as a constant, so that the compiler works the scale out.
-fn height_at(packet: &[u8], known: TagSet, past: &[u16; 128], tag: u64) -> Value
-    requires { ⌜ Placed known (now packet) (now past) × Like tag 15 2 ⌝ }
+// An extended height, by its place: before it stands its length.
+fn extended_at(packet: &[u8], known: TagSet, places: &[u16; 128], tag: u64) -> Value
+    requires { ⌜ Placed known (now packet) (now places) × (isExtended tag ≡ true) ⌝ }
     ensures { λ r. ⌜ r ≡ valueFor tag (rowsHeld known (now (packet .entry))) ⌝ }
 {
-    let end = end_of(known, past, tag);
+    let place = place_of(known, places, tag);
+    if 0 < place {
+        let length = packet[place - 1] as usize;
+        let end = place + length;
+        return in_house(tag, length, number::value(&packet[place..end]));
+    }
+    Value::Absent
+}
+
+// A height: all have the scale of 15, which stands here as a constant, so that the compiler works the scale out.
+fn height_at(packet: &[u8], known: TagSet, places: &[u16; 128], tag: u64) -> Value
+    requires { ⌜ Placed known (now packet) (now places) × Like tag 15 2 ⌝ }
+    ensures { λ r. ⌜ r ≡ valueFor tag (rowsHeld known (now (packet .entry))) ⌝ }
+{
+    let end = place_of(known, places, tag);
     if 0 < end {
-        return in_house(15, number::value(&packet[end - 2..end]));
+        return in_house(15, 2, number::value(&packet[end - 2..end]));
     }
     Value::Absent
 }
 
 // A latitude, in the scale of 23.
-fn latitude_at(packet: &[u8], known: TagSet, past: &[u16; 128], tag: u64) -> Value
-    requires { ⌜ Placed known (now packet) (now past) × Like tag 23 4 ⌝ }
+fn latitude_at(packet: &[u8], known: TagSet, places: &[u16; 128], tag: u64) -> Value
+    requires { ⌜ Placed known (now packet) (now places) × Like tag 23 4 ⌝ }
     ensures { λ r. ⌜ r ≡ valueFor tag (rowsHeld known (now (packet .entry))) ⌝ }
 {
-    let end = end_of(known, past, tag);
+    let end = place_of(known, places, tag);
     if 0 < end {
-        return in_house(23, number::value(&packet[end - 4..end]));
+        return in_house(23, 4, number::value(&packet[end - 4..end]));
     }
     Value::Absent
 }
 
 // A longitude, in the scale of 24.
-fn longitude_at(packet: &[u8], known: TagSet, past: &[u16; 128], tag: u64) -> Value
-    requires { ⌜ Placed known (now packet) (now past) × Like tag 24 4 ⌝ }
+fn longitude_at(packet: &[u8], known: TagSet, places: &[u16; 128], tag: u64) -> Value
+    requires { ⌜ Placed known (now packet) (now places) × Like tag 24 4 ⌝ }
     ensures { λ r. ⌜ r ≡ valueFor tag (rowsHeld known (now (packet .entry))) ⌝ }
 {
-    let end = end_of(known, past, tag);
+    let end = place_of(known, places, tag);
     if 0 < end {
-        return in_house(24, number::value(&packet[end - 4..end]));
+        return in_house(24, 4, number::value(&packet[end - 4..end]));
     }
     Value::Absent
 }
 
 // A corner's offset from the frame centre, in the scale of 26.
-fn offset_at(packet: &[u8], known: TagSet, past: &[u16; 128], tag: u64) -> Value
-    requires { ⌜ Placed known (now packet) (now past) × Like tag 26 2 ⌝ }
+fn offset_at(packet: &[u8], known: TagSet, places: &[u16; 128], tag: u64) -> Value
+    requires { ⌜ Placed known (now packet) (now places) × Like tag 26 2 ⌝ }
     ensures { λ r. ⌜ r ≡ valueFor tag (rowsHeld known (now (packet .entry))) ⌝ }
 {
-    let end = end_of(known, past, tag);
+    let end = place_of(known, places, tag);
     if 0 < end {
-        return in_house(26, number::value(&packet[end - 2..end]));
+        return in_house(26, 2, number::value(&packet[end - 2..end]));
     }
     Value::Absent
 }
 
 // A height by its row over the ellipsoid, else by the one over mean sea level.
-fn height_in(packet: &[u8], known: TagSet, past: &[u16; 128], ellipsoid: u64, sea: u64) -> Height
-    requires { ⌜ Placed known (now packet) (now past) × Like ellipsoid 15 2 × Like sea 15 2 ⌝ }
+fn height_in(packet: &[u8], known: TagSet, places: &[u16; 128], ellipsoid: u64, sea: u64) -> Height
+    requires { ⌜ Placed known (now packet) (now places) × Like ellipsoid 15 2 × Like sea 15 2 ⌝ }
     ensures { λ r. ⌜ heightSaid r ≡ given (heightIn ellipsoid sea (rowsHeld known (now (packet .entry)))) ⌝ }
 {
-    match height_at(packet, known, past, ellipsoid) {
+    match height_at(packet, known, places, ellipsoid) {
         Value::At(over) => Height::OverEllipsoid(EllipsoidHeight(over)),
         Value::Off => Height::Missing,
-        Value::Absent => match height_at(packet, known, past, sea) {
+        Value::Absent => match height_at(packet, known, places, sea) {
             Value::At(above) => Height::OverSeaLevel(SeaLevelHeight(above)),
             Value::Off => Height::Missing,
             Value::Absent => Height::Missing,
@@ -133,30 +149,40 @@ fn height_in(packet: &[u8], known: TagSet, past: &[u16; 128], ellipsoid: u64, se
     }
 }
 
-fn height_by(packet: &[u8], known: TagSet, ellipsoid: u64, sea: u64) -> Height
-    requires { ⌜ Like ellipsoid 15 2 × Like sea 15 2 ⌝ }
-    ensures { λ r. ⌜ heightSaid r ≡ fromRows (heightIn ellipsoid sea) known (now (packet .entry)) ⌝ }
+// The sensor's height: row 104, else row 75, else row 15.
+fn sensor_in(packet: &[u8], known: TagSet, places: &[u16; 128]) -> Height
+    requires { ⌜ Placed known (now packet) (now places) ⌝ }
+    ensures { λ r. ⌜ heightSaid r ≡ given (sensorIn (rowsHeld known (now (packet .entry)))) ⌝ }
+{
+    match extended_at(packet, known, places, 104) {
+        Value::At(over) => Height::OverEllipsoid(EllipsoidHeight(over)),
+        Value::Off => Height::Missing,
+        Value::Absent => height_in(packet, known, places, 75, 15),
+    }
+}
+
+// The sensor's height.
+pub fn sensor_height(packet: &[u8], known: TagSet) -> Height
+    ensures { λ r. ⌜ heightSaid r ≡ sensorHeight known (now (packet .entry)) ⌝ }
 {
     let located = packet::locate(packet, known);
     let answer = located.answer;
     match answer {
         Checked::Refused(refusal) => Height::Refused(refusal),
-        Checked::Accepted(_) => height_in(packet, known, &located.past, ellipsoid, sea),
+        Checked::Accepted(_) => sensor_in(packet, known, &located.places),
     }
-}
-
-// The sensor's height: row 75, else row 15.
-pub fn sensor_height(packet: &[u8], known: TagSet) -> Height
-    ensures { λ r. ⌜ heightSaid r ≡ sensorHeight known (now (packet .entry)) ⌝ }
-{
-    height_by(packet, known, 75, 15)
 }
 
 // The frame centre's height: row 78, else row 25.
 pub fn frame_centre_height(packet: &[u8], known: TagSet) -> Height
     ensures { λ r. ⌜ heightSaid r ≡ frameCentreHeight known (now (packet .entry)) ⌝ }
 {
-    height_by(packet, known, 78, 25)
+    let located = packet::locate(packet, known);
+    let answer = located.answer;
+    match answer {
+        Checked::Refused(refusal) => Height::Refused(refusal),
+        Checked::Accepted(_) => height_in(packet, known, &located.places, 78, 25),
+    }
 }
 
 // The plain sum of two values, where both are there; a mark is no number.
@@ -201,31 +227,31 @@ fn point_of(latitude: Value, longitude: Value) -> Corner
     }
 }
 
-fn full_corner(packet: &[u8], known: TagSet, past: &[u16; 128], k: u64) -> Corner
-    requires { ⌜ Placed known (now packet) (now past) × (0 < k) × (k < 5) ⌝ }
+fn full_corner(packet: &[u8], known: TagSet, places: &[u16; 128], k: u64) -> Corner
+    requires { ⌜ Placed known (now packet) (now places) × (0 < k) × (k < 5) ⌝ }
     ensures { λ r. ⌜ cornerSaid r ≡ given (fullCorner k (rowsHeld known (now (packet .entry)))) ⌝ }
 {
-    let latitude = latitude_at(packet, known, past, 80 + 2 * k);
-    let longitude = longitude_at(packet, known, past, 81 + 2 * k);
+    let latitude = latitude_at(packet, known, places, 80 + 2 * k);
+    let longitude = longitude_at(packet, known, places, 81 + 2 * k);
     point_of(latitude, longitude)
 }
 
-fn offset_corner(packet: &[u8], known: TagSet, past: &[u16; 128], k: u64) -> Corner
-    requires { ⌜ Placed known (now packet) (now past) × (0 < k) × (k < 5) ⌝ }
+fn offset_corner(packet: &[u8], known: TagSet, places: &[u16; 128], k: u64) -> Corner
+    requires { ⌜ Placed known (now packet) (now places) × (0 < k) × (k < 5) ⌝ }
     ensures { λ r. ⌜ cornerSaid r ≡ given (offsetCorner k (rowsHeld known (now (packet .entry)))) ⌝ }
 {
-    let north = latitude_at(packet, known, past, 23);
-    let up = offset_at(packet, known, past, 24 + 2 * k);
-    let east = longitude_at(packet, known, past, 24);
-    let right = offset_at(packet, known, past, 25 + 2 * k);
+    let north = latitude_at(packet, known, places, 23);
+    let up = offset_at(packet, known, places, 24 + 2 * k);
+    let east = longitude_at(packet, known, places, 24);
+    let right = offset_at(packet, known, places, 25 + 2 * k);
     let latitude = sum(north, up);
     let longitude = sum(east, right);
     point_of(latitude, longitude)
 }
 
 // The full rows decide where both are there, also by a mark.
-fn corner_in(packet: &[u8], known: TagSet, past: &[u16; 128], k: u64) -> Corner
-    requires { ⌜ Placed known (now packet) (now past) ⌝ }
+fn corner_in(packet: &[u8], known: TagSet, places: &[u16; 128], k: u64) -> Corner
+    requires { ⌜ Placed known (now packet) (now places) ⌝ }
     ensures { λ r. ⌜ cornerSaid r ≡ given (cornerIn k (rowsHeld known (now (packet .entry)))) ⌝ }
 {
     if k == 0 {
@@ -234,9 +260,9 @@ fn corner_in(packet: &[u8], known: TagSet, past: &[u16; 128], k: u64) -> Corner
     if 5 <= k {
         return Corner::Missing;
     }
-    let full = full_corner(packet, known, past, k);
+    let full = full_corner(packet, known, places, k);
     match full {
-        Corner::Missing => offset_corner(packet, known, past, k),
+        Corner::Missing => offset_corner(packet, known, places, k),
         Corner::OffTheEarth => full,
         Corner::At(_) => full,
         Corner::Refused(_) => full,
@@ -251,6 +277,6 @@ pub fn corner_at(packet: &[u8], known: TagSet, k: u64) -> Corner
     let answer = located.answer;
     match answer {
         Checked::Refused(refusal) => Corner::Refused(refusal),
-        Checked::Accepted(_) => corner_in(packet, known, &located.past, k),
+        Checked::Accepted(_) => corner_in(packet, known, &located.places, k),
     }
 }

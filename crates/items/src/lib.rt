@@ -14,7 +14,7 @@ use catalogue::Item;
 use catalogue::Sign;
 
 // House units: 10^-7 degree, mm, mm/s, 0.001 mbar, 0.001 percent, 0.001 degree C.
-const TABLE: [Entry; 64] = [
+const TABLE: [Entry; 67] = [
     Entry(1, 2, false, 0, 0),
     Entry(2, 8, false, 0, 0),
     Entry(3, 0, false, 0, 0),
@@ -79,9 +79,12 @@ const TABLE: [Entry; 64] = [
     Entry(89, 4, true, -1_800_000_000, 1_800_000_000),
     Entry(90, 4, true, -900_000_000, 900_000_000),
     Entry(91, 4, true, -900_000_000, 900_000_000),
+    Entry(103, 0, false, -900_000, 40_000_000),
+    Entry(104, 0, false, -900_000, 40_000_000),
+    Entry(105, 0, false, -900_000, 40_000_000),
 ];
 
-fn table() -> [Entry; 64]
+fn table() -> [Entry; 67]
     ensures { λ r. ⌜ r ≡ rows ⌝ }
 {
     TABLE
@@ -171,7 +174,10 @@ fn row_of(tag: u64) -> Entry
         88 => rows[60],
         89 => rows[61],
         90 => rows[62],
-        _ => rows[63],
+        91 => rows[63],
+        103 => rows[64],
+        104 => rows[65],
+        _ => rows[66],
     }
 }
 

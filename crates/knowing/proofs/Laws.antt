@@ -4,8 +4,9 @@ use Prim.Native.Nat.{ℕ, zero, suc, _<_}
 use mathlib.Core.Path.{_≡_, refl, ap, sym, _∙_}
 use native.Mathlib.Omega.{arith}
 use lib.Dec.{eqb}
+use lib.Signed.{ltZ}
 use borrow.Author.Tests.{ne-eqb}
-use mathlib.Core.Bool.{Bool, true, not, _||_}
+use mathlib.Core.Bool.{Bool, true, false, not, _||_}
 use Rattle.base.proofs.Cases.{byBool, byLt, byEq, clash, never, unless, unless-true}
 use Rattle.base.specs.Every.{allBelow}
 use Rattle.base.proofs.Every.{all-below, below-all, both-left, both-right, both-true}
@@ -80,8 +81,10 @@ module _ (K : TagSet) (g : Good K) where
       listed : (f : Found) → isKnown f ≡ true → shapeBy f ≡ Shape.Absent → ⊥
       listed (Known i) k a =
           byBool (eqb (i .width) 0)
-          (λ b. let z : Text ≡ Shape.Absent = rw b at a in never (cc))
-          (λ b. let z : Number (i .width) (isMarked (i .sign)) ≡ Shape.Absent = rw b at a in never (cc))
+          (λ b. byBool (ltZ (i .low) (i .high))
+          (λ l. let z : Number 2 4 false ≡ Shape.Absent = rw (b, l) at a in never (cc))
+          (λ l. let z : Text ≡ Shape.Absent = rw (b, l) at a in never (cc)))
+          (λ b. let z : Number (i .width) (i .width) (isMarked (i .sign)) ≡ Shape.Absent = rw b at a in never (cc))
       listed Found.Absent k a = clash (sym k)
 
 -- 1, 2 and 65, as two words

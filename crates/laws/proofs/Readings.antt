@@ -43,10 +43,10 @@ use Rattle.laws.proofs.Rows.{Made, all-made, rows-good}
 use Rattle.laws.proofs.Sent.{Lies, formed-lie, bytes-back, rows-pieces, sentOn, sent-canonical}
 
 -- a number's row points at nothing
-number-row : {A : Type 0} (width : ℕ) (marked : Bool) (code kind c size : ℕ) (a : A) → kind ≡ kindFor (Number width marked) code
+number-row : {A : Type 0} (least most : ℕ) (marked : Bool) (code kind c size : ℕ) (a : A) → kind ≡ kindFor (Number least most marked) code
     → isNumber (saidBy kind c size a) ≡ true
-number-row width marked code kind c size a e =
-    byBool (marked && eqb code (markCode width)) (λ m. rw (e, m)) (λ m. rw (e, m))
+number-row least most marked code kind c size a e =
+    byBool (marked && eqb code (markCode most)) (λ m. rw (e, m)) (λ m. rw (e, m))
 
 module _ (K : Knowing) (b q : List ℕ) where
   row-size : (j : Item) → Lies q j → partLength (rowOf K j .part) ≡ length (j .piece .value)
@@ -66,11 +66,11 @@ module _ (K : Knowing) (b q : List ℕ) where
       }
     where
       pointed : (s : Shape) → shapeFor K (r .tag) ≡ s → isNumber (rowSays r) ≡ false → bytesAt b r ≡ pieceOf K b r .value
-      pointed (Number width marked) f h =
+      pointed (Number least most marked) f h =
           let v : List ℕ = pieceOf K b r .value in
-          let k : r .kind ≡ kindFor (Number width marked) (valueOf v) =
-          m .kind ∙ (ap (λ s. kindOf (meaningOf s v)) f ∙ kind-seen (length v) v (Number width marked) (valueOf v)) in
-          clash (sym (number-row width marked (valueOf v) (r .kind) _ _ _ k) ∙ h)
+          let k : r .kind ≡ kindFor (Number least most marked) (valueOf v) =
+          m .kind ∙ (ap (λ s. kindOf (meaningOf s v)) f ∙ kind-seen (length v) v (Number least most marked) (valueOf v)) in
+          clash (sym (number-row least most marked (valueOf v) (r .kind) _ _ _ k) ∙ h)
       pointed Text f h = rw f
       pointed Absent f h = rw f
 

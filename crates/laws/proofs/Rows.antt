@@ -16,7 +16,7 @@ use Rattle.refusal.specs.Answer.{given}
 use Rattle.number.specs.Stored.{Bytes, valueOf, bytesOf}
 use Rattle.number.proofs.Laws.{bits-bytes, bytes-back, length-bytesOf, value-small}
 use Rattle.catalogue.specs.Items.{groups, member, itemIn, itemOf}
-use Rattle.catalogue.specs.Shapes.{shapeOf}
+use Rattle.catalogue.specs.Shapes.{shapeOf, shapeAllows}
 use Rattle.catalogue.specs.declared.Shape.{Shape}
 use Rattle.catalogue.specs.declared.Shape.the-variants.{Text, Number, Absent}
 use Rattle.rows.specs.Meaning.{shapeFor, meaningOf, kindOf, kindFor, codeOf}
@@ -31,7 +31,7 @@ use Rattle.laws.proofs.Structure.{structure-formed}
 use Rattle.laws.proofs.Accepted.{accepts}
 use Rattle.laws.proofs.Written.{Tagged}
 use Rattle.laws.proofs.Forward.{items-tagged}
-use Rattle.laws.proofs.Sent.{Lies, lies-bytes, SizedFor, number-width, accepted-sized, accepted-lie}
+use Rattle.laws.proofs.Sent.{Lies, lies-bytes, SizedFor, number-allowed, accepted-sized, accepted-lie}
 
 -- a row as a receiver gives it to the piece that it stands for; the checksum's code is any
 pub record Made (K : Knowing) (b : List ℕ) (r : RowWords) : Type 0 where
@@ -40,30 +40,31 @@ pub record Made (K : Knowing) (b : List ℕ) (r : RowWords) : Type 0 where
   pub size : partLength (r .part) ≡ length (pieceOf K b r .value)
 
 -- the checksum has no mark
-sum-unmarked : (K : Knowing) (width : ℕ) (marked : Bool) → shapeFor K 1 ≡ Number width marked → marked ≡ false
+sum-unmarked : (K : Knowing) (least most : ℕ) (marked : Bool) → shapeFor K 1 ≡ Number least most marked → marked ≡ false
 unfolding shapeFor shapeOf itemOf itemIn groups member
-sum-unmarked K width marked e =
+sum-unmarked K least most marked e =
     byBool (K 1)
-    (λ k. let f : Number 2 false ≡ Number width marked = rw k at e in cc)
-    (λ k. let f : Absent ≡ Number width marked = rw k at e in never (cc))
+    (λ k. let f : Number 2 2 false ≡ Number least most marked = rw k at e in cc)
+    (λ k. let f : Absent ≡ Number least most marked = rw k at e in never (cc))
 
 module _ (K : Knowing) (b : List ℕ) (r : RowWords) where
-  number-made : (width : ℕ) (marked : Bool) → shapeFor K (r .tag) ≡ Number width marked → r .kind ≡ kindFor (Number width marked) (r .code)
-      → contentGood (Number width marked) (length b) r ≡ true → Made K b r
+  number-made : (least most : ℕ) (marked : Bool) → shapeFor K (r .tag) ≡ Number least most marked → r .kind ≡ kindFor (Number least most marked) (r .code)
+      → contentGood (Number least most marked) (length b) r ≡ true → Made K b r
   unfolding pieceOf
-  number-made width marked f k c =
-      let same : partLength (r .part) ≡ width = eqb-true _ _ (both-left (eqb (partLength (r .part)) width) _ c) in
-      let size : partLength (r .part) ≡ length (bytesOf width (r .code)) = same ∙ sym (length-bytesOf width (r .code)) in
+  number-made least most marked f k c =
+      let shape : Shape = Number least most marked in
+      let n : ℕ = partLength (r .part) in
+      let size : n ≡ length (bytesOf n (r .code)) = sym (length-bytesOf n (r .code)) in
       byEq (r .tag) 1
       (λ one.
-      let plain : marked ≡ false = sum-unmarked K width marked (rw one at f) in
+      let plain : marked ≡ false = sum-unmarked K least most marked (rw one at f) in
       record { kind = rw f (k ∙ rw plain); code = λ other. absurd (other one); size = rw f size })
       (λ other.
-      let wide : ltb (r .code) (2 ^ (8 * width)) ≡ true = rw (ne-eqb (r .tag) 1 other) at (both-right (eqb (partLength (r .part)) width) _ c) in
-      let fits : r .code < 256 ^ width = rw (bits-bytes width) at (ltb-true (r .code) (2 ^ (8 * width)) wide) in
-      let back : valueOf (bytesOf width (r .code)) ≡ r .code = bytes-back width (r .code) fits in
-      let kind = k ∙ (ap (kindFor (Number width marked)) (sym back) ∙ sym (kind-seen _ (bytesOf width (r .code)) (Number width marked) _)) in
-      record { kind = rw f kind; code = λ z. rw f (sym back ∙ sym (code-seen _ (bytesOf width (r .code)) width marked _)); size = rw f size })
+      let wide : ltb (r .code) (2 ^ (8 * n)) ≡ true = rw (ne-eqb (r .tag) 1 other) at (both-right (shapeAllows shape n) _ c) in
+      let fits : r .code < 256 ^ n = rw (bits-bytes n) at (ltb-true (r .code) (2 ^ (8 * n)) wide) in
+      let back : valueOf (bytesOf n (r .code)) ≡ r .code = bytes-back n (r .code) fits in
+      let kind = k ∙ (ap (kindFor shape) (sym back) ∙ sym (kind-seen _ (bytesOf n (r .code)) shape _)) in
+      record { kind = rw f kind; code = λ z. rw f (sym back ∙ sym (code-seen _ (bytesOf n (r .code)) least most marked _)); size = rw f size })
 
   -- text and carried bytes have no code, and lie in the buffer
   no-code : contentGood Text (length b) r ≡ true → r .code ≡ 0
@@ -83,7 +84,7 @@ module _ (K : Knowing) (b : List ℕ) (r : RowWords) where
       go shape refl (eqb-true _ _ (both-left (eqb (r .kind) (kindFor shape (r .code))) _ e′)) (both-right (eqb (r .kind) (kindFor shape (r .code))) _ e′)
     where
       go : (s : Shape) → shapeFor K (r .tag) ≡ s → r .kind ≡ kindFor s (r .code) → contentGood s (length b) r ≡ true → Made K b r
-      go (Number width marked) f k c = number-made width marked f k c
+      go (Number least most marked) f k c = number-made least most marked f k c
       go Text f k c = record { kind = rw f k; code = λ other. rw f (no-code c); size = rw f (part-size c) }
       go Absent f k c = record { kind = rw f k; code = λ other. rw f (no-code c); size = rw f (part-size c) }
 
@@ -121,18 +122,12 @@ good-row K p i by t l s =
 
     go : (x : Shape) → shapeFor K (i .piece .tag) ≡ x
         → eqb (kindOf (meaningOf x v)) (kindFor x (codeOf (meaningOf x v))) && contentGood x (length p) (rowBy x i) ≡ true
-    go (Number width marked) f =
-        let w : length v ≡ width = number-width K (i .piece) width marked s f in
-        let fits : valueOf v < 256 ^ width = rw w at (value-small v (lies-bytes p i by l)) in
-        let coded : codeGood (i .piece .tag) width (valueOf v) ≡ true =
-        byBool (eqb (i .piece .tag) 1) (λ e. rw e) (λ e. rw (e, bits-bytes width) (lt-ltb _ _ fits)) in
-        let code = code-seen (length v) v width marked (valueOf v) in
-        rw (
-          code,
-          eq-eqb _ _ (kind-seen (length v) v (Number width marked) (valueOf v)),
-          eq-eqb (partLength (i .place * 65536 + length v)) width (size
-              ∙ w),
-        ) coded
+    go (Number least most marked) f =
+        let sized : shapeAllows (Number least most marked) (length v) ≡ true = number-allowed K (i .piece) least most marked s f in
+        let coded : codeGood (i .piece .tag) (length v) (valueOf v) ≡ true =
+        byBool (eqb (i .piece .tag) 1) (λ e. rw e) (λ e. rw (e, bits-bytes (length v)) (lt-ltb _ _ (value-small v (lies-bytes p i by l)))) in
+        rw (code-seen (length v) v least most marked (valueOf v), eq-eqb _ _ (kind-seen (length v) v (Number least most marked) (valueOf v)), size, sized)
+        coded
     go Text f = part
     go Absent f = part
 

@@ -71,34 +71,31 @@ lies-bytes p i by l = rw (l .there) (bytes-take (length (i .piece .value)) (drop
 abbrev pub SizedFor : Knowing → Piece → Type 0
 SizedFor K c = K (c .tag) ≡ true → lengthAllowed (c .tag) (length (c .value)) ≡ true
 
--- a known number has its width
-pub number-width : (K : Knowing) (c : Piece) (width : ℕ) (marked : Bool) → SizedFor K c → shapeFor K (c .tag) ≡ Number width marked → length (c .value) ≡ width
+-- a known number has an allowed length
+pub number-allowed : (K : Knowing) (c : Piece) (least most : ℕ) (marked : Bool) → SizedFor K c → shapeFor K (c .tag) ≡ Number least most marked
+    → shapeAllows (Number least most marked) (length (c .value)) ≡ true
 unfolding shapeFor lengthAllowed
-number-width K c width marked sized e =
+number-allowed K c least most marked sized e =
     byBool (K (c .tag))
-    (λ k.
-    let f : shapeOf (c .tag) ≡ Number width marked = rw k at e in
-    let g : shapeAllows (shapeOf (c .tag)) (length (c .value)) ≡ true = sized k in
-    eqb-true _ _ (rw f at g))
-    (λ k. let f : Absent ≡ Number width marked = rw k at e in never (cc))
+    (λ k. let f : shapeOf (c .tag) ≡ Number least most marked = rw k at e in ap (λ s. shapeAllows s (length (c .value))) (sym f) ∙ sized k)
+    (λ k. let f : Absent ≡ Number least most marked = rw k at e in never (cc))
 
 -- a row's piece is the item's
-pub piece-back : (K : Knowing) (p : List ℕ) (i : Item) → Bytes p → Lies p i → SizedFor K (i .piece) → pieceOf K p (rowOf K i) ≡ i .piece
+pub piece-back : (K : Knowing) (p : List ℕ) (i : Item) → Bytes p → Lies p i → pieceOf K p (rowOf K i) ≡ i .piece
 unfolding pieceOf rowOf
-piece-back K p i by l sized = ap (λ v. record { tag = i .piece .tag; value = v }) (back (shapeFor K (i .piece .tag)) refl)
+piece-back K p i by l = ap (λ v. record { tag = i .piece .tag; value = v }) (back (shapeFor K (i .piece .tag)) refl)
   where
     back : (s : Shape) → shapeFor K (i .piece .tag) ≡ s → rowValue s p (rowOf K i) ≡ i .piece .value
-    back (Number width marked) e =
-        rw (e, code-seen _ (i .piece .value) width marked (valueOf (i .piece .value)))
-        (spelled (i .piece .value) width (valueOf (i .piece .value)) (lies-bytes p i by l) (number-width K (i .piece) width marked sized e) refl)
+    back (Number least most marked) e =
+        let v : List ℕ = i .piece .value in
+        rw (e, code-seen _ v least most marked (valueOf v), digits-mod (i .place) (l .short)) (spelled v (length v) (valueOf v) (lies-bytes p i by l) refl refl)
     back Text e = bytes-back K p i l
     back Absent e = bytes-back K p i l
 
-pieces-back : (K : Knowing) (p : List ℕ) (is : List Item) → Bytes p → Each (Lies p) is → Each (SizedFor K) (pieces is)
-    → piecesOf K p (rowsOf K is) ≡ pieces is
+pieces-back : (K : Knowing) (p : List ℕ) (is : List Item) → Bytes p → Each (Lies p) is → piecesOf K p (rowsOf K is) ≡ pieces is
 unfolding piecesOf rowsOf
-pieces-back K p [] by l s = refl
-pieces-back K p (i ∷ is) by l s = rw (piece-back K p i by (l .0) (s .0), pieces-back K p is by (l .1) (s .1))
+pieces-back K p [] by l = refl
+pieces-back K p (i ∷ is) by l = rw (piece-back K p i by (l .0), pieces-back K p is by (l .1))
 
 each-sized : (K : Knowing) (cs : List Piece) → ((k : ℕ) → k < length cs → SizedFor K (pieceAt cs k)) → Each (SizedFor K) cs
 each-sized K [] s = tt
@@ -114,7 +111,7 @@ module _ (K : Knowing) (p : List ℕ) (is : List Item) (by : Bytes p) (e : verdi
 
   -- its rows, turned into pieces again, are its pieces
   pub rows-pieces : piecesOf K p (rowsOf K is) ≡ pieces is
-  rows-pieces = pieces-back K p is by accepted-lie accepted-sized
+  rows-pieces = pieces-back K p is by accepted-lie
 
   -- so sending on gives the same bytes, whoever sends
   pub sent-on : encode (piecesOf K p (rowsOf K is)) ≡ canonical p

@@ -14,6 +14,7 @@ use Rattle.ber.specs.Written.{tagBytes, lengthBytes}
 use Rattle.ber.proofs.Laws.{length-form, length-bytes, tag-bytes}
 use Rattle.checksum.specs.Sum.{checksumOf}
 use Rattle.checksum.proofs.Laws.{checksum-small}
+use Rattle.catalogue.specs.Extended.{isExtended}
 use Rattle.catalogue.specs.Shapes.{codeAllowed}
 use Rattle.packet.specs.Pieces.{Piece, Item, pieces}
 use Rattle.packet.specs.Structure.{key, structure}
@@ -101,7 +102,7 @@ but-length (further s) = ap suc (but-length s)
 
 -- nobody finds a fault in the checksum's value
 judge-but : (K : Knowing) (seen : List ℕ) {cs ds : List Piece} → SameBut cs ds → judgeFrom K seen cs ≡ judgeFrom K seen ds
-unfolding judgeFrom faultOf codeAllowed
+unfolding judgeFrom faultOf codeAllowed isExtended
 judge-but K seen (atLast e) = rw e
 judge-but K seen (further s) = rw (judge-but K (_ ∷ seen) s)
 

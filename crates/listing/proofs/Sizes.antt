@@ -57,7 +57,7 @@ content-short : (p : List ℕ) (r : RowWords) → length (contentText p r) ≤ 2
 unfolding contentText numberWord markWord textWord carriedWord
 content-short p r =
     byEq (r .kind) 1
-    (λ e. rw (e, length-append) (omega (arith, number-most (toHouse (r .tag) (r .code)) (r .code))))
+    (λ e. rw (e, length-append) (omega (arith, number-most (toHouse (r .tag) (partLength (r .part)) (r .code)) (r .code))))
     (λ e. byEq (r .kind) 2
     (λ f. rw f (omega arith))
     (λ f. byEq (r .kind) 3
@@ -71,8 +71,8 @@ content-most p r =
     omega (arith, content-short p r, l, s)
 
 -- the sizes that the code adds up
-pub number-few : (tag code : ℕ) {size : ℕ} → size ≡ length (numberText (toHouse tag code) code) → size ≤ 21
-number-few tag code e = omega (arith, number-most (toHouse tag code) code)
+pub number-few : (tag n code : ℕ) {size : ℕ} → size ≡ length (numberText (toHouse tag n code) code) → size ≤ 21
+number-few tag n code e = omega (arith, number-most (toHouse tag n code) code)
 
 pub decimal-fits : (n : ℕ) {size : ℕ} → size ≡ length (decimal n) → size ≤ 20
 decimal-fits n e = omega (arith, decimal-few n)

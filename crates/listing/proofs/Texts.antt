@@ -27,12 +27,12 @@ use Rattle.listing.specs.Lines.{numberWord, markWord, textWord, carriedW
 use Rattle.listing.specs.code.Listable.{InPacket}
 
 -- a reading, by what the conversion answers
-module _ (tag code : ℕ) {h : ToHouse} (e : houseSaid h ≡ toHouse tag code) where
-  pub number-said : {x : ToHouse} → h ≡ x → numberText (houseSaid x) code ≡ numberText (toHouse tag code) code
+module _ (tag n code : ℕ) {h : ToHouse} (e : houseSaid h ≡ toHouse tag n code) where
+  pub number-said : {x : ToHouse} → h ≡ x → numberText (houseSaid x) code ≡ numberText (toHouse tag n code) code
   number-said f = ap (λ y. numberText (houseSaid y) code) (sym f) ∙ ap (λ a. numberText a code) e
 
   -- in house units, as the code holds them
-  pub whole-said : {x : House} → SFits w64 (x .value) → h ≡ Is x → whole (toZ w64 (ofZ w64 (x .value))) ≡ numberText (toHouse tag code) code
+  pub whole-said : {x : House} → SFits w64 (x .value) → h ≡ Is x → whole (toZ w64 (ofZ w64 (x .value))) ≡ numberText (toHouse tag n code) code
   whole-said fits f = ap whole (toZ-ofZ fits) ∙ number-said f
 
 module _ (p : List ℕ) (r : RowWords) where
@@ -45,12 +45,12 @@ module _ (p : List ℕ) (r : RowWords) where
   unfolding contentText
   by-saying e = sym (ap (λ m. meaningText (r .tag) (mapMeaning (bytesIn p) m)) e)
 
-  pub number-content : r .kind ≡ 1 → numberWord ++ numberText (toHouse (r .tag) (r .code)) (r .code) ≡ contentText p r
+  pub number-content : r .kind ≡ 1 → numberWord ++ numberText (toHouse (r .tag) (partLength (r .part)) (r .code)) (r .code) ≡ contentText p r
   number-content e = by-saying (says-reading _ _ _ _ e)
 
-  pub number-length : r .kind ≡ 1 → 7 + length (numberText (toHouse (r .tag) (r .code)) (r .code)) ≡ length (contentText p r)
+  pub number-length : r .kind ≡ 1 → 7 + length (numberText (toHouse (r .tag) (partLength (r .part)) (r .code)) (r .code)) ≡ length (contentText p r)
   unfolding numberWord
-  number-length e = sym (length-append numberWord (numberText (toHouse (r .tag) (r .code)) (r .code))) ∙ ap length (number-content e)
+  number-length e = sym (length-append numberWord (numberText (toHouse (r .tag) (partLength (r .part)) (r .code)) (r .code))) ∙ ap length (number-content e)
 
   module _ (n : r .kind ≡ 1 → ⊥) where
     pub mark-content : r .kind ≡ 2 → markWord ≡ contentText p r

@@ -49,7 +49,7 @@ numberText (refused n p t) code = decimal code
 
 -- kind and value: "a mark prints "-"; text and carried print upper-case hex, nothing if empty"
 abbrev pub meaningText : ℕ → Meaning (List ℕ) → List ℕ
-meaningText tag (reading code size) = numberWord ++ numberText (toHouse tag code) code
+meaningText tag (reading code size) = numberWord ++ numberText (toHouse tag size code) code
 meaningText tag (mark code size) = markWord
 meaningText tag (text bytes) = textWord ++ hex bytes
 meaningText tag (carried bytes) = carriedWord ++ hex bytes

@@ -35,10 +35,10 @@ pub enum Listing {
 }
 
 // How many characters a reading has: in house units where scaled, else its code.
-fn number_size(tag: u64, code: u64) -> usize
-    ensures { λ r. ⌜ r ≡ length (numberText (toHouse tag code) code) ⌝ }
+fn number_size(tag: u64, bytes: usize, code: u64) -> usize
+    ensures { λ r. ⌜ r ≡ length (numberText (toHouse tag bytes code) code) ⌝ }
 {
-    match scale::to_house(tag, code) {
+    match scale::to_house(tag, bytes, code) {
         ToHouse::Is(house) => spelling::whole_size(house.value),
         ToHouse::Refused(_) => spelling::decimal_size(code),
     }
@@ -51,7 +51,7 @@ fn content_size(packet: &[u8], row: RowWords) -> usize
 {
     let bytes = (row.part % 65536) as usize;
     if row.kind == rows::READING {
-        return 7 + number_size(row.tag, row.code);
+        return 7 + number_size(row.tag, bytes, row.code);
     }
     if row.kind == rows::MARK {
         return 6;
@@ -110,11 +110,11 @@ fn put_field(out: &mut [u8], at: usize, n: u64) -> usize
 }
 
 // A reading: in house units where scaled, else its code.
-fn put_number(out: &mut [u8], at: usize, tag: u64, code: u64) -> usize
-    requires { ⌜ Room (now out) at (numberText (toHouse tag code) code) ⌝ }
-    ensures { λ r. ⌜ Wrote (now (out .entry)) at (numberText (toHouse tag code) code) r (now (out .exit)) ⌝ }
+fn put_number(out: &mut [u8], at: usize, tag: u64, bytes: usize, code: u64) -> usize
+    requires { ⌜ Room (now out) at (numberText (toHouse tag bytes code) code) ⌝ }
+    ensures { λ r. ⌜ Wrote (now (out .entry)) at (numberText (toHouse tag bytes code) code) r (now (out .exit)) ⌝ }
 {
-    match scale::to_house(tag, code) {
+    match scale::to_house(tag, bytes, code) {
         ToHouse::Is(house) => at + spelling::put_whole(out, at, house.value),
         ToHouse::Refused(_) => put_decimal(out, at, code),
     }
@@ -138,7 +138,8 @@ fn put_content(out: &mut [u8], at: usize, packet: &[u8], row: RowWords) -> usize
 {
     if row.kind == rows::READING {
         let value = put_word(out, at, b"number\t");
-        return put_number(out, value, row.tag, row.code);
+        let bytes = (row.part % 65536) as usize;
+        return put_number(out, value, row.tag, bytes, row.code);
     }
     if row.kind == rows::MARK {
         return put_word(out, at, b"mark\t-");

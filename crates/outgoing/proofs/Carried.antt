@@ -18,7 +18,7 @@ use Rattle.packet.specs.Judge.{clean, wrong}
 use Rattle.outgoing.specs.code.Staged.{rowFault}
 
 allows-shaped : (s : Shape) (n : ℕ) → shapeAllows s n ≡ true → isShaped s ≡ true
-allows-shaped (Number width marked) n e = refl
+allows-shaped (Number least most marked) n e = refl
 allows-shaped Text n e = refl
 allows-shaped Absent n e = e
 

@@ -1,19 +1,26 @@
 -- Rows seen to be right at a glance, and a table that is: the stages say the same of them.
 -- Assumes nothing.
-use Prim.Native.Nat.{ℕ}
+use Prim.Native.Nat.{ℕ, _+_, _-_, _*_, _^_, _<_, _≤_}
+use native.Mathlib.Omega.{arith}
 use mathlib.Core.Path.{_≡_, ap, sym, _∙_}
 use mathlib.Core.Bool.{true, false}
 use mathlib.Core.List.{List}
+use lib.Dec.{leb}
+use lib.Pow.{pow-add, pow-pos}
+use borrow.Author.Tests.{leb-true, lt-ltb, ne-eqb}
+use Rattle.base.proofs.Every.{both-left, both-right, both-true}
 use Rattle.refusal.specs.Answer.{given}
 use Rattle.tagset.specs.Sets.{holds, withTag, meet}
 use Rattle.tagset.specs.declared.TagSet.{TagSet}
 use Rattle.tagset.proofs.Laws.{Words}
 use Rattle.tagset.proofs.Meeting.{meet-with}
+use Rattle.catalogue.specs.Extended.{isExtended, perTwoMetres, inReach}
 use Rattle.catalogue.specs.Shapes.{shapeOf}
 use Rattle.catalogue.specs.declared.Shape.{Shape}
+use Rattle.catalogue.proofs.Columns.{extended-shape, extended-code, reach-allowed}
 use Rattle.rows.specs.Meaning.{shapeFor}
 use Rattle.rows.specs.declared.RowWords.{RowWords}
-use Rattle.rows.specs.Taken.{rowGood}
+use Rattle.rows.specs.Taken.{tagGood, codeGood, partLength, rowGood}
 use Rattle.rows.specs.Present.{withRow}
 use Rattle.packet.specs.Rows.{rowsIn}
 use Rattle.outgoing.specs.Outgoing.{agrees}
@@ -22,6 +29,40 @@ use Rattle.outgoing.specs.code.Glance.{PlainAs, Plain, PlainRows, PlainE
 use Rattle.outgoing.specs.declared.Packed.{Packed}
 use Rattle.outgoing.specs.declared.Handed.{Handed}
 use Rattle.outgoing.proofs.Carried.{clean-present}
+
+-- an extended height: a code within reach is not too wide for its length
+reach-narrow : (n c : ℕ) → 2 ≤ n → 2 * c ≤ 40900 * perTwoMetres n → c < 2 ^ (8 * n)
+reach-narrow n c some h =
+    let k : 8 * n ≡ 8 * n - 16 + 16 = omega arith in
+    let e : 2 ^ (8 * n) ≡ perTwoMetres n * 2 ^ 16 = ap (λ m. 2 ^ m) k ∙ pow-add 2 (8 * n - 16) 16 in
+    omega (arith, e, pow-pos (8 * n - 16))
+
+module _ (r : RowWords) (x : isExtended (r .tag) ≡ true) (kind : r .kind ≡ 1) (reach : inReach (partLength (r .part)) (r .code) ≡ true) where
+  reach-good : codeGood (r .tag) (partLength (r .part)) (r .code) ≡ true
+  unfolding inReach isExtended
+  reach-good =
+      let n : ℕ = partLength (r .part) in
+      let rest = both-right (leb 2 n) _ reach in
+      let small = reach-narrow n (r .code) (leb-true 2 n (both-left (leb 2 n) _ reach)) (leb-true _ _ (both-right (leb n 4) _ rest)) in
+      let other : r .tag ≡ 1 → ⊥ = λ e. omega (arith, leb-true 103 (r .tag) (both-left (leb 103 (r .tag)) _ x)) in
+      rw (ne-eqb (r .tag) 1 other, lt-ltb (r .code) (2 ^ (8 * n)) small)
+
+  height-tag : tagGood (r .tag) ≡ true
+  unfolding isExtended
+  height-tag =
+      let low = leb-true 103 (r .tag) (both-left (leb 103 (r .tag)) _ x) in
+      let high = leb-true (r .tag) 105 (both-right (leb 103 (r .tag)) _ x) in
+      rw (lt-ltb 0 (r .tag) (omega (arith, low)), lt-ltb (r .tag) 2097152 (omega (arith, high)))
+
+  pub height-plain : (room bytes : ℕ) → bytes ≡ rowSize r → PlainAs (shapeOf (r .tag)) room r bytes
+  unfolding rowGood
+  height-plain room bytes size =
+      let allowed = reach-allowed (r .tag) x (partLength (r .part)) (r .code) reach in
+      record {
+        good = rw (extended-shape (r .tag) x, kind) (both-true _ _ height-tag (both-true _ _ (rw (extended-shape (r .tag) x) at allowed) reach-good));
+        right = rw (allowed, extended-code (r .tag) x (partLength (r .part)) (r .code), reach);
+        size = size;
+      }
 
 -- a row, known and the first of its tag, or carried
 module _ (K seen : TagSet) (room : ℕ) (r : RowWords) {bytes : ℕ} where

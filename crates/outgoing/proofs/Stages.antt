@@ -7,7 +7,7 @@ use mathlib.Core.Bool.{true, false}
 use mathlib.Core.List.{List, [], _∷_}
 use lib.ListN.{length, length-append}
 use borrow.Author.Tests.{ne-eqb}
-use Rattle.base.proofs.Cases.{byBool, byLt, byEq}
+use Rattle.base.proofs.Cases.{byBool, byLt, clash}
 use Rattle.base.specs.Every.{Each}
 use Rattle.refusal.specs.Answer.{Answer, given, refused, map, then}
 use Rattle.refusal.proofs.Answers.{passed}
@@ -16,8 +16,10 @@ use Rattle.tagset.specs.Sets.{noTags, holds, withTag}
 use Rattle.tagset.specs.declared.TagSet.{TagSet}
 use Rattle.tagset.proofs.Laws.{Words, holds-none}
 use Rattle.knowing.specs.Good.{good}
-use Rattle.catalogue.specs.Items.{groups, member, itemIn, itemOf}
-use Rattle.catalogue.specs.Shapes.{shapeOf, codeAllowed}
+use Rattle.catalogue.specs.Extended.{isExtended}
+use Rattle.catalogue.specs.Shapes.{codesLimited, codeAllowed}
+use Rattle.catalogue.proofs.Columns.{limited-number, codes-free}
+use Rattle.rows.proofs.Laws.{code-seen}
 use Rattle.rows.specs.Meaning.{shapeFor}
 use Rattle.rows.specs.declared.RowWords.{RowWords}
 use Rattle.rows.specs.Taken.{rowGood, tagShown, countGood, rowAt, GoodRow}
@@ -28,7 +30,6 @@ use Rattle.packet.specs.Judge.{Knowing, has, among, Fault, clean, wrong, faultO
 use Rattle.packet.specs.Encode.{itemsBytes, encode}
 use Rattle.packet.specs.Rows.{rowsIn, pieceOf, piecesOf}
 use Rattle.packet.proofs.Judging.{SeenBy, none-seen, one-seen}
-use Rattle.packet.proofs.Faults.{sixty-three}
 use Rattle.laws.proofs.Written.{length-item, length-encode}
 use Rattle.laws.proofs.Rows.{good-made}
 use Rattle.outgoing.specs.Outgoing.{rightRows, agrees, rightSize, lastPiece, endsOf, byRow, sendable, outgoingWith, packedOf}
@@ -132,18 +133,20 @@ module _ (K : TagSet) (w : Words K) (b : List ℕ) where
   Good r = GoodRow (holds K) b r
 
   -- the items whose codes are limited are numbers
-  limited-code : (r : RowWords) → Good r → holds K (r .tag) ≡ true → shapeOf (r .tag) ≡ shapeOf 34 → (r .tag ≡ 1 → ⊥)
-      → r .code ≡ valueOf (pieceOf (holds K) b r .value)
-  unfolding shapeFor shapeOf itemOf itemIn member groups
-  limited-code r g k e other = rw (k, e) at (good-made (holds K) b r g .code other)
+  limited-code : (r : RowWords) → Good r → holds K (r .tag) ≡ true → codesLimited (r .tag) ≡ true → r .code ≡ valueOf (pieceOf (holds K) b r .value)
+  unfolding shapeFor codesLimited isExtended
+  limited-code r g k l =
+      let q = limited-number (r .tag) l in
+      let v : List ℕ = pieceOf (holds K) b r .value in
+      rw (k, q .same) at (good-made (holds K) b r g .code (λ one. clash (sym (rw one at l))))
+      ∙ code-seen (length v) v (q .least) (q .most) (q .marked) (valueOf v)
 
   same-code : (r : RowWords) → Good r → holds K (r .tag) ≡ true → (n : ℕ)
       → codeAllowed (r .tag) n (r .code) ≡ codeAllowed (r .tag) n (valueOf (pieceOf (holds K) b r .value))
-  unfolding codeAllowed
   same-code r g k n =
-      byEq (r .tag) 34 (λ e. ap (codeAllowed (r .tag) n) (limited-code r g k (ap shapeOf e) (λ f. omega arith)))
-      (λ x. byEq (r .tag) 63 (λ e. ap (codeAllowed (r .tag) n) (limited-code r g k (ap shapeOf e ∙ sixty-three) (λ f. omega arith)))
-      (λ y. rw (ne-eqb (r .tag) 34 x, ne-eqb (r .tag) 63 y)))
+      byBool (codesLimited (r .tag))
+      (λ l. ap (codeAllowed (r .tag) n) (limited-code r g k l))
+      (λ l. codes-free (r .tag) n (r .code) l ∙ sym (codes-free (r .tag) n _ l))
 
   same-fault : (seen : TagSet) (ts : List ℕ) (r : RowWords) → Good r → SeenBy seen ts → rowFault K seen r ≡ faultOf (holds K) (among ts) (pieceOf (holds K) b r)
   unfolding rowFault faultOf pieceOf

@@ -2,11 +2,13 @@
 // Nothing is written here, and no sum wraps for any table.
 ghost use mathlib.Core.Path.{_≡_};
 ghost use mathlib.Core.Bool.{true};
-ghost use Prim.Native.Nat.{_^_, _<_, _≤_};
+ghost use Prim.Native.Nat.{ℕ, _^_, _<_, _≤_};
 ghost use lib.ListN.{length};
 ghost use Rattle.refusal.specs.Numbers.{number};
 ghost use Rattle.refusal.specs.Answer.{refused as refusedBy, map};
 ghost use Rattle.tagset.specs.Sets.{holds};
+ghost use Rattle.catalogue.specs.Extended.{isExtended};
+ghost use Rattle.catalogue.specs.Shapes.{shapeOf};
 ghost use Rattle.catalogue.specs.code.Column.{shapeColumn};
 ghost use Rattle.rows.specs.Present.{presentIn};
 ghost use Rattle.packet.specs.Said.{faultSaid};
@@ -280,6 +282,20 @@ fn known_size(shape: Shape, room: usize, row: RowWords) -> usize
     0
 }
 
+// The same of a row of an extended height, whatever the buffer: a code within reach has a right length and is not too wide for it.
+fn height_size(row: RowWords) -> usize
+    requires { ⌜ isExtended (row .tag) ≡ true ⌝ }
+    ensures { λ r. ⌜ ((room : ℕ) → 0 < r → PlainAs (shapeOf (row .tag)) room row r) ⌝ }
+{
+    if row.kind == rows::READING {
+        let size = (row.part % 65536) as usize;
+        if catalogue::is_in_reach(size, row.code) {
+            return row_size(row);
+        }
+    }
+    0
+}
+
 // The same of any row, for a receiver that has seen some tags; each shape by itself, so that its tests go by a shape that is settled.
 fn plain_size(column: &[u8; 128], known: TagSet, seen: TagSet, room: usize, row: RowWords) -> usize
     requires { ⌜ now column ≡ shapeColumn ⌝ }
@@ -290,9 +306,21 @@ fn plain_size(column: &[u8; 128], known: TagSet, seen: TagSet, room: usize, row:
         if tagset::has(seen, tag) {
             return 0;
         }
+        if catalogue::is_extended(tag) {
+            return height_size(row);
+        }
         return match catalogue::shape_at(column, tag) {
-            Shape::Number { width, marked } => {
-                known_size(Shape::Number { width, marked }, room, row)
+            Shape::Number {
+                least,
+                most,
+                marked,
+            } => {
+                let shape = Shape::Number {
+                    least,
+                    most,
+                    marked,
+                };
+                known_size(shape, room, row)
             }
             Shape::Text => known_size(Shape::Text, room, row),
             Shape::Absent => 0,

@@ -1,6 +1,7 @@
 -- What an answer says as a struct of C: document 01's refusal in front (number 0: none), and behind it what was asked for, all 0 on a refusal.
 use Prim.Native.Nat.{ℕ}
 use mathlib.Core.Bool.{cond}
+use lib.Signed.{ltZ}
 use lib.Dec.{eqb}
 use lib.IntN.{ℤ, pos}
 use Rattle.refusal.specs.Answer.{Answer, given, refused}
@@ -40,7 +41,7 @@ use Rattle.oysterknoll.specs.declared.ItemAnswer.{ItemAnswer}
 
 -- of header and archive
 abbrev pub version : ℕ
-version = 2
+version = 3
 
 abbrev pub refusing : ℕ → ℕ → ℕ → Refusal
 refusing n place tag = record { number = n; place = place; tag = tag }
@@ -145,9 +146,12 @@ cornerSeen offTheEarth = pointing nothing 2 (pos 0) (pos 0)
 abbrev pub cornerAnswer : Answer CornerSeen → CornerAnswer
 cornerAnswer = saying cornerSeen (λ r. pointing r 0 (pos 0) (pos 0))
 
--- how the catalogue stores an item: 0 not at all, 1 unsigned, 2 signed, 3 text
-abbrev pub storedAs : ℕ → Sign → ℕ
-storedAs width sign = cond (eqb width 0) 3 (cond (isSigned sign) 2 1)
+-- how the catalogue stores an item: 0 not at all, 1 unsigned, 2 signed, 3 text, 4 as an extended height (W-202)
+abbrev pub unfixedAs : Item → ℕ
+unfixedAs i = cond (ltZ (i .low) (i .high)) 4 3
+
+abbrev pub storedAs : Item → ℕ
+storedAs i = cond (eqb (i .width) 0) (unfixedAs i) (cond (isSigned (i .sign)) 2 1)
 
 abbrev pub markedAs : Sign → ℕ
 markedAs sign = cond (isMarked sign) 1 0
@@ -155,7 +159,7 @@ markedAs sign = cond (isMarked sign) 1 0
 abbrev pub listing : Item → ℕ → ItemAnswer
 listing i unit =
     record {
-      stored = storedAs (i .width) (i .sign);
+      stored = storedAs i;
       width = i .width;
       low = i .low;
       high = i .high;

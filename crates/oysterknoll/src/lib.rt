@@ -17,7 +17,7 @@ ghost use Rattle.refusal.specs.Numbers.{number};
 ghost use Rattle.tagset.specs.Sets.{knowing};
 ghost use Rattle.catalogue.specs.Items.{itemOf, unitOf};
 ghost use Rattle.walker.specs.Steps.{seenAt};
-ghost use Rattle.oysterknoll.specs.Answers.{version, refusing, rowing, storedAs, markedAs, listing, itemsAnswer, rowsAnswer, bytesAnswer};
+ghost use Rattle.oysterknoll.specs.Answers.{version, refusing, rowing, unfixedAs, storedAs, markedAs, listing, itemsAnswer, rowsAnswer, bytesAnswer};
 ghost use Rattle.oysterknoll.specs.Answers.{linesAnswer, rowAnswer, startAnswer, nextAnswer, valueAnswer, codeAnswer, heightAnswer};
 ghost use Rattle.oysterknoll.specs.Answers.{cornerAnswer, itemAnswer, hasAnswer};
 use catalogue::Found;
@@ -39,7 +39,7 @@ use walker::Begin;
 use walker::Seen;
 use writer::Writing;
 
-const VERSION: u64 = 2;
+const VERSION: u64 = 3;
 
 // Kinds of a height and of a corner, and how an item is stored.
 const MISSING: u64 = 0;
@@ -59,6 +59,8 @@ const STORED_UNSIGNED: u64 = 1;
 const STORED_SIGNED: u64 = 2;
 
 const STORED_TEXT: u64 = 3;
+
+const STORED_EXTENDED: u64 = 4;
 
 // The refusal in front of an answer: document 01's number, place and tag, number 0 where nothing is refused.
 #[repr(C)]
@@ -422,12 +424,12 @@ pub extern "C" fn oyk_forward(packet: &[u8], low: u64, high: u64, out: &mut [u8]
     }
 }
 
-// What a code of an item stands for, in house units.
+// What a code of so many bytes stands for, in house units; only at an extended height does the length matter.
 #[no_mangle]
-pub extern "C" fn oyk_to_house(tag: u64, code: u64) -> ValueAnswer
-    ensures { λ r. ⌜ r ≡ valueAnswer (toHouse tag code) ⌝ }
+pub extern "C" fn oyk_to_house(tag: u64, length: usize, code: u64) -> ValueAnswer
+    ensures { λ r. ⌜ r ≡ valueAnswer (toHouse tag length code) ⌝ }
 {
-    match scale::to_house(tag, code) {
+    match scale::to_house(tag, length, code) {
         ToHouse::Refused(cause) => ValueAnswer {
             refusal: refused(cause),
             value: 0,
@@ -439,12 +441,12 @@ pub extern "C" fn oyk_to_house(tag: u64, code: u64) -> ValueAnswer
     }
 }
 
-// The code of an item that is nearest to a value in house units.
+// The code of so many bytes that is nearest to a value in house units, at an extended height the one at or below it.
 #[no_mangle]
-pub extern "C" fn oyk_to_code(tag: u64, value: i64) -> CodeAnswer
-    ensures { λ r. ⌜ r ≡ codeAnswer (toCode tag value) ⌝ }
+pub extern "C" fn oyk_to_code(tag: u64, length: usize, value: i64) -> CodeAnswer
+    ensures { λ r. ⌜ r ≡ codeAnswer (toCode tag length value) ⌝ }
 {
-    match scale::to_code(tag, value) {
+    match scale::to_code(tag, length, value) {
         ToCode::Refused(cause) => CodeAnswer {
             refusal: refused(cause),
             code: 0,
@@ -532,12 +534,23 @@ pub extern "C" fn oyk_corner(packet: &[u8], low: u64, high: u64, k: u64) -> Corn
     }
 }
 
-fn stored_as(width: usize, sign: Sign) -> u64
-    ensures { λ r. ⌜ r ≡ storedAs width sign ⌝ }
+// What has no width of its own: with a scale it is an extended height.
+fn unfixed_as(item: Item) -> u64
+    ensures { λ r. ⌜ r ≡ unfixedAs item ⌝ }
 {
-    if width == 0 {
-        return STORED_TEXT;
+    if item.low < item.high {
+        return STORED_EXTENDED;
     }
+    STORED_TEXT
+}
+
+fn stored_as(item: Item) -> u64
+    ensures { λ r. ⌜ r ≡ storedAs item ⌝ }
+{
+    if item.width == 0 {
+        return unfixed_as(item);
+    }
+    let sign = item.sign;
     match sign {
         Sign::Unsigned => STORED_UNSIGNED,
         Sign::Signed => STORED_SIGNED,
@@ -558,11 +571,10 @@ fn marked_as(sign: Sign) -> u64
 fn listed(item: Item, unit: u64) -> ItemAnswer
     ensures { λ r. ⌜ r ≡ listing item unit ⌝ }
 {
-    let width = item.width;
     let sign = item.sign;
     ItemAnswer {
-        stored: stored_as(width, sign),
-        width,
+        stored: stored_as(item),
+        width: item.width,
         low: item.low,
         high: item.high,
         unit,

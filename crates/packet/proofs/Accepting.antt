@@ -1,20 +1,20 @@
--- What an accepted packet has: its items fill it from the first one's place on, and each known one has an allowed length.
+-- What an accepted packet has: its items fill it from the first one's place on, and each known one has an allowed length and code.
 -- Assumes nothing.
 use Prim.Native.Nat.{ℕ, zero, suc, _+_, _≤_}
 use native.Mathlib.Omega.{arith}
 use mathlib.Core.Path.{_≡_, refl, ap, sym, _∙_}
-use mathlib.Core.Bool.{true}
+use mathlib.Core.Bool.{Bool, true, false, cond}
 use mathlib.Core.List.{List, [], _∷_}
 use lib.Dec.{ltb}
 use lib.ListN.{length, drop}
 use Rattle.base.proofs.Cases.{byBool, byLt}
 use Rattle.refusal.specs.Answer.{Answer, given, refused, then}
 use Rattle.refusal.proofs.Answers.{not-given, given-same, passed, then-given}
-use Rattle.number.specs.Stored.{Bytes}
+use Rattle.number.specs.Stored.{Bytes, valueOf}
 use Rattle.tagset.specs.Sets.{holds}
 use Rattle.tagset.specs.declared.TagSet.{TagSet}
 use Rattle.knowing.specs.Good.{good}
-use Rattle.catalogue.specs.Shapes.{shapeOf, shapeAllows}
+use Rattle.catalogue.specs.Shapes.{shapeOf, shapeAllows, codeAllowed}
 use Rattle.packet.specs.Pieces.{Piece, Item, pieces, Step, noTag, noLength, one, readItem, before, itemAt, onward, walk}
 use Rattle.packet.specs.Ends.{rightEnds}
 use Rattle.packet.specs.Structure.{frame, endsOf, lastSum, closed, structure}
@@ -80,18 +80,27 @@ accepting K p is by e =
       clean = ap (λ x. judge (holds K) (pieces x)) (sym (q .0)) ∙ q .1;
     }
 
--- each known item has an allowed length
+-- each known item has an allowed length and code
+pub record Fits (c : Piece) : Type 0 where
+  pub size : shapeAllows (shapeOf (c .tag)) (length (c .value)) ≡ true
+  pub code : codeAllowed (c .tag) (length (c .value)) (valueOf (c .value)) ≡ true
+
 pub data AllFit (K : Knowing) : List Item → Type 0 where
   noneFits : AllFit K []
-  oneFits : {i : Item} {is : List Item} → (K (i .piece .tag) ≡ true → shapeAllows (shapeOf (i .piece .tag)) (length (i .piece .value)) ≡ true) → AllFit K is
-      → AllFit K (i ∷ is)
+  oneFits : {i : Item} {is : List Item} → (K (i .piece .tag) ≡ true → Fits (i .piece)) → AllFit K is → AllFit K (i ∷ is)
 
-allows-if-clean : (K seen : Knowing) (c : Piece) → faultOf K seen c ≡ clean → K (c .tag) ≡ true → shapeAllows (shapeOf (c .tag)) (length (c .value)) ≡ true
+fits-by : (sized twice coded : Bool) → cond sized (cond twice (wrong 13) (cond coded clean (wrong 14))) (wrong 12) ≡ clean → (sized ≡ true) × (coded ≡ true)
+fits-by true true coded e = let z : _≡_ {A = ℕ} 0 1 = cc in absurd (omega arith)
+fits-by true false true e = (refl, refl)
+fits-by true false false e = let z : _≡_ {A = ℕ} 0 1 = cc in absurd (omega arith)
+fits-by false twice coded e = let z : _≡_ {A = ℕ} 0 1 = cc in absurd (omega arith)
+
+fits-if-clean : (K seen : Knowing) (c : Piece) → faultOf K seen c ≡ clean → K (c .tag) ≡ true → Fits c
 unfolding faultOf
-allows-if-clean K seen c e k =
-    let f = rw k at e in
-    byBool (shapeAllows (shapeOf (c .tag)) (length (c .value))) (λ b. b)
-    (λ b. let g : wrong 12 ≡ clean = rw b at f in let z : _≡_ {A = ℕ} 0 1 = cc in absurd (omega arith))
+fits-if-clean K seen c e k =
+    let n = length (c .value) in
+    let f = fits-by (shapeAllows (shapeOf (c .tag)) n) (seen (c .tag)) (codeAllowed (c .tag) n (valueOf (c .value))) (rw k at e) in
+    record { size = f .0; code = f .1 }
 
 later-fine : (j : Judged) → later j ≡ fine → j ≡ fine
 later-fine fine e = refl
@@ -107,7 +116,7 @@ unfolding judgeFrom
 fine-fit K seen [] e = noneFits
 fine-fit K seen (i ∷ is) e =
     let q = clean-first (faultOf K (among seen) (i .piece)) (i .piece .tag) (judgeFrom K (i .piece .tag ∷ seen) (pieces is)) e in
-    oneFits (allows-if-clean K (among seen) (i .piece) (q .0)) (fine-fit K (i .piece .tag ∷ seen) is (q .1))
+    oneFits (fits-if-clean K (among seen) (i .piece) (q .0)) (fine-fit K (i .piece .tag ∷ seen) is (q .1))
 
 -- a walk of at most n items finds no more
 few-before : (i : Item) (n : ℕ) (w : Answer (List Item)) (is : List Item) → ((js : List Item) → w ≡ given js → length js ≤ n) → before i w ≡ given is

@@ -22,6 +22,7 @@ use Rattle.tagset.proofs.Laws.{Words}
 use Rattle.tagset.proofs.Counting.{size-none}
 use Rattle.knowing.specs.Good.{good}
 use Rattle.knowing.proofs.Laws.{good-means}
+use Rattle.catalogue.specs.Extended.{isExtended}
 use Rattle.rows.specs.Present.{presentIn}
 use Rattle.packet.specs.Pieces.{Item, pieces, readItem, walk}
 use Rattle.packet.specs.Seen.{rowsOf}
@@ -29,19 +30,19 @@ use Rattle.packet.specs.Judge.{judge}
 use Rattle.packet.specs.Ends.{rightEnds}
 use Rattle.packet.specs.Structure.{frame, lastOf, endsOf, rightSum, lastSum, closed, structure}
 use Rattle.packet.specs.Encode.{longerOf}
-use Rattle.packet.specs.Verdict.{startOf, judged, bodyOf, verdict, received, noPast, pastFrom, checked}
+use Rattle.packet.specs.Verdict.{startOf, judged, bodyOf, verdict, received, foundAt, noPlaces, placesFrom, checked}
 use Rattle.packet.specs.Said.{headerAt}
 use Rattle.packet.specs.code.Headers.{headerOf}
 use Rattle.packet.specs.code.Passing.{Kept, kept, freshAt, keptFrom, Passes}
 use Rattle.packet.specs.code.Concluded.{begunBy, noHeader, headerIn, endsBy, closedBy, itemsAt, bare, rightFrom, judgedFrom}
-use Rattle.packet.specs.code.Concluded.{codedIn, cleanIn, PastIn, Whole, Begins}
+use Rattle.packet.specs.code.Concluded.{codedIn, cleanIn, PlacesIn, Whole, Begins}
 use Rattle.packet.specs.declared.Header.{Header}
 use Rattle.packet.specs.declared.Passed.{Passed}
 use Rattle.packet.specs.declared.Accepted.{Accepted}
 use Rattle.packet.proofs.Frames.{framed-given}
 use Rattle.packet.proofs.Walks.{walk-end, kept-none, header-lies, header-back}
 use Rattle.packet.proofs.Walked.{Walked, done, went, walked, Within, last-within, first-start, header-start}
-use Rattle.packet.proofs.Passing.{kept-count, kept-longer, kept-last, kept-past, kept-present, tracks-none, marks-none, glance-clean}
+use Rattle.packet.proofs.Passing.{kept-count, kept-longer, kept-last, kept-places, kept-present, tracks-none, marks-none, glance-clean}
 use Rattle.packet.proofs.Accepting.{AllFit, fine-fit, placed-given}
 
 -- no item stands past the end
@@ -135,23 +136,26 @@ module _ (p : List ℕ) (by : Bytes p) (from : ℕ) (inside : from ≤ length p)
       go (given tt) e = c .sum e
       go (refused n a t) e = refl
 
-  -- all places past items lie in the packet
-  past-in : (l : List ℕ) {at : ℕ} (is : List Item) → Walked p at is → PastIn (length p) l → PastIn (length p) (pastFrom l is)
-  unfolding pastFrom
-  past-in l [] w h = h
-  past-in l {at} (i ∷ is) (went g e rest) h =
-      let size : length (take (g .size) (drop (g .place) p)) ≡ g .size = ap (λ z. z .size) (header-back p g (header-lies p at by g e .inside)) in
-      past-in _ is rest (record { inside = λ t. set-within l _ _ (length p) t (rw size (header-lies p at by g e .inside)) (h .inside) })
+  -- all values are found in the packet
+  places-in : (l : List ℕ) {at : ℕ} (is : List Item) → Walked p at is → PlacesIn (length p) l → PlacesIn (length p) (placesFrom l is)
+  unfolding placesFrom
+  places-in l [] w h = h
+  places-in l {at} (i ∷ is) (went g e rest) h =
+      let lies = header-lies p at by g e in
+      let size : length (take (g .size) (drop (g .place) p)) ≡ g .size = ap (λ z. z .size) (header-back p g (lies .inside)) in
+      let found : foundAt (g .tag) (g .place) (g .size) ≤ length p =
+      byBool (isExtended (g .tag)) (λ x. rw x (omega (arith, lies .inside))) (λ x. rw x (lies .inside)) in
+      places-in _ is rest (record { inside = λ t. set-within l _ _ (length p) t (rw size found) (h .inside) })
 
-module _ (K : TagSet) (words : Words K) (p : List ℕ) (by : Bytes p) (from : ℕ) (r : Passed) (past : List ℕ) (present : TagSet)
-    (w : Whole K p from r past present) where
+module _ (K : TagSet) (words : Words K) (p : List ℕ) (by : Bytes p) (from : ℕ) (r : Passed) (places : List ℕ) (present : TagSet)
+    (w : Whole K p from r places present) where
   went-all : Walked p from (w .items)
   went-all = walked p by 128 from (w .items) (w .walked)
 
-  last-place : (is : List Item) → keptFrom K (freshAt from noPast noTags) is .passed .last ≡ lastStart from is
+  last-place : (is : List Item) → keptFrom K (freshAt from noPlaces noTags) is .passed .last ≡ lastStart from is
   unfolding keptFrom
   last-place [] = refl
-  last-place (i ∷ is) = kept-last K (freshAt from noPast noTags) i is
+  last-place (i ∷ is) = kept-last K (freshAt from noPlaces noTags) i is
 
   abbrev last : Header
   last = headerIn p (r .last)
@@ -164,11 +168,11 @@ module _ (K : TagSet) (words : Words K) (p : List ℕ) (by : Bytes p) (from : �
   pub last-inside : last .place + last .size ≤ length p
   last-inside = closed-last .lies
 
-  past-is : pastFrom noPast (w .items) ≡ past
-  past-is = sym (kept-past K (freshAt from noPast noTags) (w .items)) ∙ ap (λ k. k .past) (w .keeps)
+  places-are : placesFrom noPlaces (w .items) ≡ places
+  places-are = sym (kept-places K (freshAt from noPlaces noTags) (w .items)) ∙ ap (λ k. k .places) (w .keeps)
 
-  pub past-inside : PastIn (length p) past
-  past-inside = rw past-is at (past-in p by from (w .inside) noPast (w .items) went-all (record { inside = none-within 128 (length p) }))
+  pub places-inside : PlacesIn (length p) places
+  places-inside = rw places-are at (places-in p by from (w .inside) noPlaces (w .items) went-all (record { inside = none-within 128 (length p) }))
 
   -- first, last and sum, and then the judgement
   pub right-by : rightFrom K p from ≡ then (closedBy p from last) (λ _. judgedFrom K p from)
@@ -177,18 +181,18 @@ module _ (K : TagSet) (words : Words K) (p : List ℕ) (by : Bytes p) (from : �
       (bare-closed (w .items) (rightEnds (endsOf p (w .items))) (lastSum p (w .items)) (judged (holds K)))
 
   -- as many tags noted as known items: the judgement is that nothing is wrong
-  pub clean-right : cleanIn K p past present (r .known) ≡ true → judgedFrom K p from ≡ given tt
+  pub clean-right : cleanIn K p places present (r .known) ≡ true → judgedFrom K p from ≡ given tt
   unfolding cleanIn judge
   clean-right e =
       let a = both-right (eqb (size present) (r .known)) _ e in
-      let b = both-right (not (eqb (getD past 65 0) 0)) _ a in
+      let b = both-right (not (eqb (getD places 65 0) 0)) _ a in
       let even : size present ≡ r .known = eqb-true _ _ (both-left (eqb (size present) (r .known)) _ e) in
-      let there : not (eqb (getD past 65 0) 0) ≡ true = both-left (not (eqb (getD past 65 0) 0)) _ a in
+      let there : not (eqb (getD places 65 0) 0) ≡ true = both-left (not (eqb (getD places 65 0) 0)) _ a in
       let knows = good-means K words (w .known) in
-      let fine = glance-clean K knows words p by past
-      (both-left (codedIn K p past 34) _ b) (both-right (codedIn K p past 34) _ b)
-      (freshAt from noPast noTags) [] (w .items) tracks-none (marks-none K knows words) (sym size-none) went-all
-      (ap (λ k. k .passed .known) (w .keeps) ∙ (sym even ∙ ap (λ k. size (k .present)) (sym (w .keeps)))) (ap (λ k. k .past) (w .keeps)) in
+      let fine = glance-clean K knows words p by places
+      (both-left (codedIn K p places 34) _ b) (both-right (codedIn K p places 34) _ b)
+      (freshAt from noPlaces noTags) [] (w .items) tracks-none (marks-none K knows words) (sym size-none) went-all
+      (ap (λ k. k .passed .known) (w .keeps) ∙ (sym even ∙ ap (λ k. size (k .present)) (sym (w .keeps)))) (ap (λ k. k .places) (w .keeps)) in
       rw (w .walked, fine, there)
 
   -- what the answer is made of
@@ -219,7 +223,7 @@ module _ (K : TagSet) (words : Words K) (p : List ℕ) (by : Bytes p) (from : �
   right-given e =
       let a = map-given (λ _. tt) walkedAnswer (sym by-right ∙ e) in
       let b = accepts K p (w .items) (a .0) (a .1) in
-      let fresh = freshAt from noPast noTags in
+      let fresh = freshAt from noPlaces noTags in
       let count : length (w .items) ≡ r .count =
       sym (kept-count K fresh (w .items) ∙ zero-add (length (w .items))) ∙ ap (λ k. k .passed .count) (w .keeps) in
       let longer : longerOf (w .items) ≡ r .longer =
@@ -228,21 +232,21 @@ module _ (K : TagSet) (words : Words K) (p : List ℕ) (by : Bytes p) (from : �
       sym (kept-present K (good-means K words (w .known)) words fresh (w .items) (b .fits)) ∙ ap (λ k. k .present) (w .keeps) in
       by-items ∙ (ap (map (bodyOf (holds K))) (a .1 ∙ ap given (b .same)) ∙ rw (starts (w .items) went-all (b .ends), count, longer, noted))
 
-  pub past-items : past ≡ pastFrom noPast (itemsAt p from)
-  past-items = sym (rw (w .walked) past-is)
+  pub places-items : places ≡ placesFrom noPlaces (itemsAt p from)
+  places-items = sym (rw (w .walked) places-are)
 
 -- a walk that has come to the packet's end, and one that has stopped before
-module _ (K : TagSet) (p : List ℕ) (from : ℕ) (before : List ℕ) (b : Begins K p from before) (r : Passed) (past : List ℕ) (present : TagSet)
-    (e : Passes K p from before noTags r past present) where
+module _ (K : TagSet) (p : List ℕ) (from : ℕ) (before : List ℕ) (b : Begins K p from before) (r : Passed) (places : List ℕ) (present : TagSet)
+    (e : Passes K p from before noTags r places present) where
   abbrev all : Answer Kept
-  all = kept K (freshAt from noPast noTags) (walk 128 from (drop from p))
+  all = kept K (freshAt from noPlaces noTags) (walk 128 from (drop from p))
 
-  goes-on : kept K (record { passed = r; past = past; present = present }) (walk (128 - r .count) (r .here) (drop (r .here) p)) ≡ all
+  goes-on : kept K (record { passed = r; places = places; present = present }) (walk (128 - r .count) (r .here) (drop (r .here) p)) ≡ all
   goes-on = e .goes ∙ ap (λ l. kept K (freshAt from l noTags) (walk 128 from (drop from p))) (b .none)
 
-  pub passes-whole : length p ≤ r .here → Whole K p from r past present
+  pub passes-whole : length p ≤ r .here → Whole K p from r places present
   passes-whole h =
-      let w = map-given (keptFrom K (freshAt from noPast noTags)) (walk 128 from (drop from p))
+      let w = map-given (keptFrom K (freshAt from noPlaces noTags)) (walk 128 from (drop from p))
       (sym goes-on ∙ (ap (kept K _) (walk-end p (r .here) (128 - r .count) h) ∙ kept-none K _)) in
       record { known = b .known; inside = b .inside; items = w .0; walked = w .1; keeps = w .2 }
 
@@ -250,7 +254,7 @@ module _ (K : TagSet) (p : List ℕ) (from : ℕ) (before : List ℕ) (b : Begin
       → map (bodyOf (holds K)) (then (walk 128 from (drop from p)) (λ is. then (closed p is) (judged (holds K)))) ≡ refused n a t
   passes-refused n a t f =
       ap (λ x. map (bodyOf (holds K)) (then x (λ is. then (closed p is) (judged (holds K)))))
-      (map-refused (keptFrom K (freshAt from noPast noTags)) (walk 128 from (drop from p)) n a t (sym goes-on ∙ ap (kept K _) f))
+      (map-refused (keptFrom K (freshAt from noPlaces noTags)) (walk 128 from (drop from p)) n a t (sym goes-on ∙ ap (kept K _) f))
 
 -- the verdict and the check, by where the items begin
 abbrev itemsFrom : TagSet → List ℕ → ℕ → Answer (List Item)
@@ -269,21 +273,21 @@ unfolding checked
 checked-begun K p a e = ap (map (bodyOf (holds K))) (received-begun K p ∙ ap (λ x. then x (itemsFrom K p)) e) ∙ map-then (bodyOf (holds K)) a (itemsFrom K p)
 
 -- a packet of a right frame
-pub begins : (K : TagSet) (p : List ℕ) (from : ℕ) → begunBy K p ≡ given from → Begins K p from noPast
+pub begins : (K : TagSet) (p : List ℕ) (from : ℕ) → begunBy K p ≡ given from → Begins K p from noPlaces
 begins K p from e =
     let a = passed (good K) (frame p) 1 0 0 e in
     let f = framed-given p from (a .1) in
     record { known = a .0; some = omega (arith, f .some); short = f .short; inside = f .inside; none = refl }
 
--- the places past the items, where a packet is accepted
-pub located-refused : (K : TagSet) (p : List ℕ) (n a t : ℕ) → checked K p ≡ refused n a t → orElse noPast (pastFrom noPast) (received K p) ≡ noPast
+-- where the values are found, if a packet is accepted
+pub located-refused : (K : TagSet) (p : List ℕ) (n a t : ℕ) → checked K p ≡ refused n a t → orElse noPlaces (placesFrom noPlaces) (received K p) ≡ noPlaces
 unfolding checked
-located-refused K p n a t e = ap (orElse noPast (pastFrom noPast)) (map-refused (bodyOf (holds K)) (received K p) n a t e)
+located-refused K p n a t e = ap (orElse noPlaces (placesFrom noPlaces)) (map-refused (bodyOf (holds K)) (received K p) n a t e)
 
 pub located-given : (K : TagSet) (p : List ℕ) (from : ℕ) (a : Accepted) → begunBy K p ≡ given from → checked K p ≡ given a
-    → orElse noPast (pastFrom noPast) (received K p) ≡ pastFrom noPast (itemsAt p from)
+    → orElse noPlaces (placesFrom noPlaces) (received K p) ≡ placesFrom noPlaces (itemsAt p from)
 unfolding checked
 located-given K p from a e f =
     let r = map-given (bodyOf (holds K)) (received K p) f in
     let b = then-given (walk 128 from (drop from p)) _ (sym (received-begun K p ∙ ap (λ x. then x (itemsFrom K p)) e) ∙ r .1) in
-    rw (r .1, b .first) (ap (pastFrom noPast) (accepts K p (b .between) (r .0) (b .second) .same))
+    rw (r .1, b .first) (ap (placesFrom noPlaces) (accepts K p (b .between) (r .0) (b .second) .same))

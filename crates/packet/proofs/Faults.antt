@@ -1,45 +1,36 @@
 -- What is wrong with an item, as the code finds it.
 -- Assumes nothing.
-use Prim.Native.Nat.{ℕ, _+_, _%_, _^_, _<_, _≤_}
+use Prim.Native.Nat.{ℕ, _+_, _*_, _%_, _^_, _<_, _≤_}
 use native.Mathlib.Omega.{arith}
+use native.Mathlib.Nat.{mod-eq-of-lt}
+use lib.Pow.{pow-mono}
 use mathlib.Core.Path.{_≡_, refl, ap, ap₂, _∙_}
 use mathlib.Core.Bool.{Bool, true, false}
 use mathlib.Core.List.{List}
 use lib.ListN.{length, take, drop, length-take, length-drop}
-use borrow.Author.Tests.{ne-eqb}
-use Rattle.base.proofs.Cases.{byEq}
+use Rattle.base.proofs.Cases.{byBool}
 use Rattle.number.specs.Stored.{Bytes, valueOf}
-use Rattle.number.proofs.Laws.{bytes-take, bytes-drop, value-small}
+use Rattle.number.proofs.Laws.{bytes-take, bytes-drop, value-small, bits-bytes}
 use Rattle.tagset.specs.Sets.{holds}
 use Rattle.tagset.specs.declared.TagSet.{TagSet}
-use Rattle.catalogue.specs.Items.{groups, member, itemIn, itemOf}
-use Rattle.catalogue.specs.Shapes.{shapeOf, codesLimited, codeAllowed}
+use Rattle.catalogue.specs.Shapes.{shapeOf, shapeAllows, codesLimited}
 use Rattle.catalogue.specs.declared.Shape.{Shape}
-use Rattle.catalogue.proofs.Columns.{codes-free}
+use Rattle.catalogue.proofs.Columns.{codes-free, limited-few}
 use Rattle.packet.specs.Pieces.{Item}
 use Rattle.packet.specs.Judge.{Fault, clean, faultBy, looked, faultOf}
 use Rattle.packet.specs.code.Headers.{itemBy}
 use Rattle.packet.specs.declared.Header.{Header}
 
-pub sixty-three : shapeOf 63 ≡ shapeOf 34
-unfolding shapeOf itemOf itemIn member groups
-sixty-three = refl
+-- a value of another length is wrong whatever its code, and the items whose codes are limited have at most eight bytes
+pub wraps-not : (n x : ℕ) → x < 256 ^ n → n ≤ 8 → x % 2 ^ 64 ≡ x
+wraps-not n x fits h = let p : 2 ^ (8 * n) ≤ 2 ^ 64 = pow-mono {i = 8 * n} {j = 64} (omega arith) in mod-eq-of-lt (omega (arith, fits, bits-bytes n))
 
--- a value of another length is wrong whatever its code, and the items whose codes are limited have one byte
 module _ (n x : ℕ) (twice : Bool) (fits : x < 256 ^ n) where
-  one-byte : n ≡ 1 → x % 2 ^ 64 ≡ x
-  one-byte e = let f : x < 256 ^ 1 = rw e at fits in omega arith
-
-  limited : (t : ℕ) → shapeOf t ≡ shapeOf 34 → faultBy (looked t n (x % 2 ^ 64) twice) ≡ faultBy (looked t n x twice)
-  unfolding shapeOf itemOf itemIn member groups
-  limited t e = rw e (byEq n 1 (λ h. rw (one-byte h)) (λ h. rw (ne-eqb n 1 h)))
+  limited : (t : ℕ) → codesLimited t ≡ true → faultBy (looked t n (x % 2 ^ 64) twice) ≡ faultBy (looked t n x twice)
+  limited t l = byBool (shapeAllows (shapeOf t) n) (λ a. rw (wraps-not n x fits (limited-few t n l a))) (λ a. rw a)
 
   pub code-wraps : (t : ℕ) → faultBy (looked t n (x % 2 ^ 64) twice) ≡ faultBy (looked t n x twice)
-  unfolding codeAllowed
-  code-wraps t =
-      byEq t 34 (λ e. limited t (ap shapeOf e))
-      (λ a. byEq t 63 (λ e. limited t (ap shapeOf e ∙ sixty-three))
-      (λ b. rw (ne-eqb t 34 a, ne-eqb t 63 b)))
+  code-wraps t = byBool (codesLimited t) (λ l. limited t l) (λ l. rw (codes-free t n (x % 2 ^ 64) l, codes-free t n x l))
 
 module _ (K seen : TagSet) where
   pub fault-unknown : (i : Item) → holds K (i .piece .tag) ≡ false → clean ≡ faultOf (holds K) (holds seen) (i .piece)

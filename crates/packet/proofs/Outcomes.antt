@@ -65,4 +65,4 @@ pub locate-determined : Answered 1 locate-kinds.ps locate-kinds.r locate-reads.P
 locate-determined κs a z z′ e e′ p q =
     let f = check-apart (z .answer) (z′ .answer) (p .says ∙ sym (q .says)) in
     let g = p .places ∙ sym (q .places) in
-    λ k. record { answer = f k; past = g k }
+    λ k. record { answer = f k; places = g k }

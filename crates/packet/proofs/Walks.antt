@@ -3,25 +3,25 @@
 use Prim.Native.Nat.{ℕ, zero, suc, _+_, _-_, _<_, _≤_}
 use native.Mathlib.Omega.{arith}
 use native.Mathlib.Nat.{add-assoc}
-use mathlib.Core.Path.{_≡_, refl, _∙_}
+use mathlib.Core.Path.{_≡_, refl, ap, sym, _∙_}
 use mathlib.Core.List.{List, []}
 use lib.Dec.{leb}
-use lib.ListN.{length, take, drop, length-take, length-drop}
-use lib.Seq.{drop-drop}
+use lib.ListN.{length, take, drop, getD, length-take, length-drop}
+use lib.Seq.{drop-drop, getD-take, getD-drop, length-take-le}
 use borrow.Author.Tests.{lt-ltb, leb-true}
 use Rattle.base.proofs.Cases.{byBool}
 use Rattle.base.proofs.Parts.{nil-at}
 use Rattle.refusal.specs.Answer.{Answer, given, refused}
 use Rattle.number.specs.Stored.{Bytes}
-use Rattle.number.proofs.Laws.{bytes-drop}
+use Rattle.number.proofs.Laws.{bytes-drop, bytes-take}
 use Rattle.ber.specs.Read.{Read, got, broken, readTag, readLength}
 use Rattle.ber.specs.Written.{tagBytes, lengthBytes}
-use Rattle.ber.proofs.Laws.{TagRead, tag-read, length-read}
+use Rattle.ber.proofs.Laws.{TagRead, tag-read, LengthRead, length-read, form-ends}
 use Rattle.tagset.specs.declared.TagSet.{TagSet}
 use Rattle.packet.specs.Pieces.{Item, Step, noTag, noLength, one, afterLength, afterTag, readItem, before, onward, walk}
 use Rattle.packet.specs.code.Headers.{headerOf, itemBy}
 use Rattle.packet.specs.Said.{headerBy, headerAt}
-use Rattle.packet.specs.code.Passing.{Kept, shortest, NoItem, withHeader, keptFrom, kept}
+use Rattle.packet.specs.code.Passing.{Kept, shortest, NoItem, withItem, keptFrom, kept}
 use Rattle.packet.specs.declared.Header.{Header}
 
 module _ (p : List ℕ) (here : ℕ) where
@@ -70,27 +70,39 @@ module _ (p : List ℕ) (here : ℕ) where
     pub two : here + 2 ≤ i .place
     pub inside : i .place + i .size ≤ length p
     pub formed : i .start + shortest i ≤ i .place
+    -- a length of one byte stands before the value, in whatever form
+    pub told : i .size < 256 → getD p (i .place - 1) 0 ≡ i .size
 
   pub header-lies : Bytes p → (i : Header) → headerAt p here ≡ given i → Lies i
   unfolding headerAt readItem
   header-lies by i e = by-tag (readTag (drop here p)) refl e
     where
       past : (t s n k : ℕ) → 0 < s → 0 < k → length (tagBytes t) + length (lengthBytes n) ≤ s + k
-          → headerBy here (afterLength (length (drop here p)) t s (got n k)) ≡ given i → Lies i
-      past t s n k some more short e =
+          → (n < 256 → getD p (here + (s + k) - 1) 0 ≡ n) → headerBy here (afterLength (length (drop here p)) t s (got n k)) ≡ given i → Lies i
+      past t s n k some more short told e =
           byBool (leb (s + k + n) (length (drop here p)))
           (λ b. let f : given (record { tag = t; start = here; place = here + (s + k); size = n }) ≡ given i = rw b at e in
           let g : record { tag = t; start = here; place = here + (s + k); size = n } ≡ i = cc in
           let m : s + k + n ≤ length p - here = rw length-drop at (leb-true (s + k + n) (length (drop here p)) b) in
-          rw (← g) (record { on = omega arith; two = omega arith; inside = omega arith; formed = omega arith }))
+          rw (← g) (record { on = omega arith; two = omega arith; inside = omega arith; formed = omega arith; told = told }))
           (λ b. let f : refused 8 here t ≡ given i = rw b at e in let z : _≡_ {A = ℕ} 0 1 = cc in absurd (omega arith))
+
+      before-value : (s n k : ℕ) → LengthRead (drop s (drop here p)) n k → n < 256 → getD p (here + (s + k) - 1) 0 ≡ n
+      before-value s n k l small =
+          let rest : List ℕ = drop s (drop here p) in
+          let long : length (take k rest) ≡ k = length-take-le k rest (l .inside) in
+          let at : here + (s + k) - 1 ≡ here + (s + (k - 1)) = omega (arith, l .some) in
+          ap (λ j. getD p j 0) at
+          ∙ (sym (getD-drop s (drop here p) (k - 1) 0 ∙ getD-drop here p (s + (k - 1)) 0)
+          ∙ (sym (getD-take k rest (k - 1) 0 (omega (arith, l .some)))
+          ∙ (ap (λ j. getD (take k rest) (j - 1) 0) (sym long) ∙ form-ends (l .form) (bytes-take k rest (bytes-drop s (bytes-drop here by))) small)))
 
       by-length : (t s : ℕ) → TagRead (drop here p) t s → (r : Read) → readLength (drop s (drop here p)) ≡ r
           → headerBy here (afterLength (length (drop here p)) t s r) ≡ given i → Lies i
       by-length t s tag broken q e = let z : _≡_ {A = ℕ} 0 1 = cc in absurd (omega arith)
       by-length t s tag (got n k) q e =
           let l = length-read _ n k (bytes-drop s (bytes-drop here by)) q in
-          past t s n k (tag .takes) (l .some) (omega (arith, tag .size, l .shortest)) e
+          past t s n k (tag .takes) (l .some) (omega (arith, tag .size, l .shortest)) (λ small. before-value s n k l small) e
 
       by-tag : (r : Read) → readTag (drop here p) ≡ r → headerBy here (afterTag (drop here p) r) ≡ given i → Lies i
       by-tag broken q e = let z : _≡_ {A = ℕ} 0 1 = cc in absurd (omega arith)
@@ -110,7 +122,7 @@ header-back p i h =
     let e : length (take (i .size) (drop (i .place) p)) ≡ i .size = rw (length-take, length-drop) (omega arith) in
     λ k. record { tag = i .tag; start = i .start; place = i .place; size = e k }
 
-pub kept-before : (K : TagSet) (k : Kept) (i : Item) (w : Answer (List Item)) → kept K k (before i w) ≡ kept K (withHeader K k (headerOf i)) w
+pub kept-before : (K : TagSet) (k : Kept) (i : Item) (w : Answer (List Item)) → kept K k (before i w) ≡ kept K (withItem K k i) w
 unfolding keptFrom
 kept-before K k i (given is) = refl
 kept-before K k i (refused n p t) = refl

@@ -63,7 +63,7 @@ pub record Clean (K : Knowing) (cs : List Piece) : Type 0 where
   pub sized : (k : ℕ) → k < length cs → K (pieceAt cs k .tag) ≡ true → lengthAllowed (pieceAt cs k .tag) (length (pieceAt cs k .value)) ≡ true
   -- 13: "known tag a second time"
   pub once : (j k : ℕ) → j < k → k < length cs → K (pieceAt cs k .tag) ≡ true → pieceAt cs j .tag ≡ pieceAt cs k .tag → ⊥
-  -- 14: "item 34 or 63 outside its codes"
+  -- 14: "item 34 or 63 outside its codes"; W-202 adds "14 for a code beyond 40,000 m"
   pub coded : (k : ℕ) → k < length cs → K (pieceAt cs k .tag) ≡ true
       → codeAllowed (pieceAt cs k .tag) (length (pieceAt cs k .value)) (valueOf (pieceAt cs k .value)) ≡ true
   -- "tag 65 is present"

@@ -62,7 +62,7 @@ bytesAt b r = take (partLength (r .part)) (drop (partPlace (r .part)) b)
 
 -- the value that a row stands for: its code's bytes, or those that it points at
 abbrev pub rowValue : Shape → List ℕ → RowWords → List ℕ
-rowValue (Number width marked) b r = bytesOf width (r .code)
+rowValue (Number least most marked) b r = bytesOf (partLength (r .part)) (r .code)
 rowValue Text b r = bytesAt b r
 rowValue Absent b r = bytesAt b r
 

@@ -9,6 +9,7 @@ use Rattle.refusal.specs.Answer.{Answer, given, refused, map, then, orElse}
 use Rattle.tagset.specs.Sets.{holds}
 use Rattle.tagset.specs.declared.TagSet.{TagSet}
 use Rattle.knowing.specs.Good.{good}
+use Rattle.catalogue.specs.Extended.{isExtended}
 use Rattle.rows.specs.Present.{presentIn}
 use Rattle.packet.specs.declared.Accepted.{Accepted}
 use Rattle.packet.specs.declared.Located.{Located}
@@ -48,18 +49,23 @@ bodyOf K is = record { from = startOf 0 is; count = length is; longer = longerOf
 unfoldable pub checked : TagSet → List ℕ → Answer Accepted
 checked K p = map (bodyOf (holds K)) (received K p)
 
--- for each tag below 128 the place past its last item, 0 where there is none; and at 0 that of the tags from 128 on
+-- where a value is found: by the place past it, since its tag tells its length; an extended height, whose tag does not (W-202), by its own place,
+-- before which its length stands
+abbrev pub foundAt : ℕ → ℕ → ℕ → ℕ
+foundAt t place size = cond (isExtended t) place (place + size)
+
+-- for each tag below 128 where its last item's value is found, 0 where there is none; and at 0 that of the tags from 128 on
 abbrev pub oneByte : ℕ → ℕ
 oneByte x = cond (ltb x 128) x 0
 
-unfoldable pub pastFrom : List ℕ → List Item → List ℕ
-pastFrom l [] = l
-pastFrom l (i ∷ is) = pastFrom (set l (oneByte (i .piece .tag)) (i .place + length (i .piece .value))) is
+unfoldable pub placesFrom : List ℕ → List Item → List ℕ
+placesFrom l [] = l
+placesFrom l (i ∷ is) = placesFrom (set l (oneByte (i .piece .tag)) (foundAt (i .piece .tag) (i .place) (length (i .piece .value)))) is
 
-abbrev pub noPast : List ℕ
-noPast = replicate 128 0
+abbrev pub noPlaces : List ℕ
+noPlaces = replicate 128 0
 
 -- after a refusal there are none
 pub record Locates (K : TagSet) (p : List ℕ) (r : Located) : Type 0 where
   pub says : checkSaid (r .answer) ≡ checked K p
-  pub places : r .past ≡ orElse noPast (pastFrom noPast) (received K p)
+  pub places : r .places ≡ orElse noPlaces (placesFrom noPlaces) (received K p)

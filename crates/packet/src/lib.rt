@@ -1,12 +1,14 @@
 // A packet checked: structure, then what the receiver knows of its items, in one walk.
 // A packet is accepted exactly when document 01 allows it, and is refused by the first refusal in its order.
 ghost use mathlib.Core.Path.{_≡_};
-ghost use Prim.Native.Nat.{_+_, _-_, _<_, _≤_};
+ghost use mathlib.Core.Bool.{true};
+ghost use Prim.Native.Nat.{_+_, _-_, _%_, _^_, _<_, _≤_};
 ghost use lib.ListN.{length, take, drop, getD};
 ghost use Rattle.refusal.specs.Numbers.{number};
 ghost use Rattle.refusal.specs.Answer.{refused as refusedBy, refusal as refusalOf};
 ghost use Rattle.tagset.specs.Sets.{holds};
-ghost use Rattle.catalogue.specs.code.Column.{shapeColumn};
+ghost use Rattle.knowing.specs.Good.{good};
+ghost use Rattle.catalogue.specs.code.Column.{shapeColumn, widthColumn};
 ghost use Rattle.packet.specs.Judge.{faultBy, faultOf};
 ghost use Rattle.packet.specs.Said.{stepSaid, headerAt, faultSaid, rightSaid, checkSaid};
 ghost use Rattle.packet.specs.Pieces.{walk as walkItems};
@@ -14,9 +16,9 @@ ghost use Rattle.packet.specs.Ends.{rightEnds};
 ghost use Rattle.packet.specs.Structure.{key, same, frame};
 ghost use Rattle.packet.specs.Verdict.{oneByte, checked, Locates};
 ghost use Rattle.packet.specs.code.Headers.{itemBy, shortForms};
-ghost use Rattle.packet.specs.code.Passing.{longerIn, shortest, Glances, TwoWords, setOf, fitAt, Notes, Passes, Stops};
+ghost use Rattle.packet.specs.code.Passing.{longerIn, shortest, sized, FitAs, foundBy, Glances, TwoWords, setOf, Notes, Passes, Stops};
 ghost use Rattle.packet.specs.code.Concluded.{frameSaid, WalksFrom, judgedFrom, headerIn, endsBy, summedAt, closedBy, codedIn, cleanIn};
-ghost use Rattle.packet.specs.code.Concluded.{begunBy, PastIn, Whole, rightFrom, Begins, ChecksFrom};
+ghost use Rattle.packet.specs.code.Concluded.{begunBy, PlacesIn, Whole, rightFrom, Begins, ChecksFrom};
 use catalogue::Shape;
 use refusal::Reason;
 use refusal::Refusal;
@@ -231,11 +233,12 @@ fn judged(packet: &[u8], from: usize, known: TagSet) -> Right
     })
 }
 
-// An item at a glance: its tag and its length where one byte says them, else 0, which no tag is and no known item's length; the place
-// past it, which is past the packet where there is no item; by how many bytes its length is longer than in its shortest form.
+// An item at a glance: its tag where one byte says it, else 0, which no item has; where its tag is known, whether it is fit; where its value is
+// found; the place past it, which is past the packet where there is no item; by how many bytes its length is longer than in its shortest form.
 struct Glance {
     tag: usize,
-    size: usize,
+    fit: bool,
+    place: usize,
     past: usize,
     longer: usize,
 }
@@ -257,56 +260,87 @@ fn longer_by(item: Header) -> usize
     item.place - item.start - ber::tag_size(item.tag) - ber::length_size(item.size as u64)
 }
 
+// Whether a length is the width, or any but 0 for a text, which has none: without a branch.
+fn is_sized(width: u8, size: usize) -> bool
+    ensures { λ r. ⌜ r ≡ sized width size ⌝ }
+{
+    (size == width as usize) != (width == 0)
+}
+
+// Whether an item is fit: its length is allowed, and of an extended height its code too.
+fn is_fit(packet: &[u8], column: &[u8; 128], item: Header) -> bool
+    requires { ⌜ (now column ≡ widthColumn) × (item .place + item .size ≤ length (now packet)) ⌝ }
+    ensures { λ r. ⌜ FitAs (now (packet .entry)) item r ⌝ }
+{
+    let tag = one_byte(item.tag);
+    let size = item.size;
+    if catalogue::is_extended(tag as u64) {
+        let place = item.place;
+        let end = place + size;
+        return catalogue::is_in_reach(size, number::value(&packet[place..end]));
+    }
+    is_sized(column[tag], one_byte(size as u64))
+}
+
+// Where the value of an item is found: by the place past it, for its tag tells its length; that of an extended height, which does not, by its
+// own place, before which its length stands.
+fn found_at(item: Header) -> usize
+    requires { ⌜ item .place + item .size < 2 ^ 64 ⌝ }
+    ensures { λ r. ⌜ r ≡ foundBy item ⌝ }
+{
+    if catalogue::is_extended(item.tag) {
+        return item.place;
+    }
+    item.place + item.size
+}
+
 // Any item at a glance.
-fn any_glance_at(packet: &[u8], at: usize) -> Glance
+fn any_glance_at(packet: &[u8], column: &[u8; 128], at: usize) -> Glance
+    requires { ⌜ now column ≡ widthColumn ⌝ }
     ensures { λ r. ⌜ Glances (now (packet .entry)) at r ⌝ }
 {
     match any_item_at(packet, at) {
         Step::Refused(_) => Glance {
             tag: 0,
-            size: 0,
+            fit: false,
+            place: 0,
             past: packet.len() + 1,
             longer: 0,
         },
         Step::Item(item) => Glance {
             tag: one_byte(item.tag),
-            size: one_byte(item.size as u64),
+            fit: is_fit(packet, column, item),
+            place: found_at(item),
             past: item.place + item.size,
             longer: longer_by(item),
         },
     }
 }
 
-// Most items have a tag and a length of one byte each.
-fn glance_at(packet: &[u8], at: usize) -> Glance
-    requires { ⌜ at + 2 ≤ length (now packet) ⌝ }
+// Most items have a tag and a length of one byte each, and need no closer look; tag 0 asks for one, for it is none.
+fn glance_at(packet: &[u8], column: &[u8; 128], at: usize) -> Glance
+    requires { ⌜ (now column ≡ widthColumn) × (at + 2 ≤ length (now packet)) ⌝ }
     ensures { λ r. ⌜ Glances (now (packet .entry)) at r ⌝ }
 {
     let after = at + 1;
     let tag = packet[at] as usize;
     let size = packet[after] as usize;
-    if 128 <= (packet[at] | packet[after]) {
-        return any_glance_at(packet, at);
+    let width = if 128 <= (packet[at] | packet[after]) {
+        128
+    } else {
+        column[tag]
+    };
+    if 128 <= width {
+        return any_glance_at(packet, column, at);
     }
-    if tag == 0 {
-        return any_glance_at(packet, at);
-    }
+    let past = after + 1 + size;
     Glance {
         tag,
-        size,
-        past: after + 1 + size,
+        fit: is_sized(width, size),
+        place: past,
+        past,
         longer: 0,
     }
-}
-
-// Whether an item has a length that its tag allows: without a branch. A text has the width 0.
-fn is_fit(column: &[u8; 128], item: Glance) -> bool
-    requires { ⌜ (now column ≡ shapeColumn) × (item .tag < 128) ⌝ }
-    ensures { λ r. ⌜ r ≡ fitAt item ⌝ }
-{
-    let tag = item.tag;
-    let width = (column[tag] & 15) as usize;
-    (item.size == width) != (width == 0)
 }
 
 // Notes a known item that is fit in the two words of tags, and says 1 where its tag is known, else 0: without a branch.
@@ -332,20 +366,21 @@ struct Passed {
     known: usize,
 }
 
-// All items from a place to the packet's end, at most 128 of them, without a branch for what an item is; for each tag the place past its
-// last item, and in two words the tags of the known ones that are fit. An item has two bytes, so none begins with the last one.
+// All items from a place to the packet's end, at most 128 of them, without a branch for what most items are; for each tag where its last value
+// is found, and in two words the tags of the known ones that are fit. An item has two bytes, so none begins with the last one.
 fn pass(
     packet: &[u8],
     from: usize,
     known: TagSet,
-    past: &mut [u16; 128],
+    places: &mut [u16; 128],
     present: &mut [u64; 2],
 ) -> Passed
-    requires { ⌜ (2 ≤ length (now packet)) × (length (now packet) ≤ 8192) × (from ≤ length (now packet)) × TwoWords (now present) ⌝ }
-    ensures { λ r. ⌜ Passes known (now (packet .entry)) from (now (past .entry)) (setOf (now (present .entry))) r (now (past .exit))
+    requires { ⌜ (good known ≡ true) × (2 ≤ length (now packet)) × (length (now packet) ≤ 8192) × (from ≤ length (now packet))
+        × TwoWords (now present) ⌝ }
+    ensures { λ r. ⌜ Passes known (now (packet .entry)) from (now (places .entry)) (setOf (now (present .entry))) r (now (places .exit))
         (setOf (now (present .exit))) ⌝ }
 {
-    let column = catalogue::shapes();
+    let column = catalogue::widths();
     let words = [known.low, known.high];
     let last_byte = packet.len() - 1;
     let mut passed = Passed {
@@ -361,15 +396,14 @@ fn pass(
         if count == 128 {
             return passed;
         }
-        let item = glance_at(packet, here);
+        let item = glance_at(packet, &column, here);
         let tag = item.tag;
         let end = item.past;
         if packet.len() < end {
             return passed;
         }
-        let fit = is_fit(&column, item);
-        let one = note(&words, present, tag, fit);
-        past[tag] = end as u16;
+        let one = note(&words, present, tag, item.fit);
+        places[tag] = item.place as u16;
         passed = Passed {
             here: end,
             count: count + 1,
@@ -547,11 +581,11 @@ fn closed(packet: &[u8], from: usize, last: Header) -> Right
 }
 
 // Whether an item of one byte is not known, not there, or has one of its codes.
-fn is_coded(packet: &[u8], known: TagSet, past: &[u16; 128], tag: usize) -> bool
-    requires { ⌜ (tag < 128) × (getD (now past) tag 0 ≤ length (now packet)) ⌝ }
-    ensures { λ r. ⌜ r ≡ codedIn known (now (packet .entry)) (now (past .entry)) tag ⌝ }
+fn is_coded(packet: &[u8], known: TagSet, places: &[u16; 128], tag: usize) -> bool
+    requires { ⌜ (tag < 128) × (getD (now places) tag 0 ≤ length (now packet)) ⌝ }
+    ensures { λ r. ⌜ r ≡ codedIn known (now (packet .entry)) (now (places .entry)) tag ⌝ }
 {
-    let end = past[tag] as usize;
+    let end = places[tag] as usize;
     if 0 < end {
         if tagset::has(known, tag as u64) {
             return catalogue::allows_code(tag as u64, 1, number::wide(packet[end - 1]));
@@ -561,18 +595,24 @@ fn is_coded(packet: &[u8], known: TagSet, past: &[u16; 128], tag: usize) -> bool
 }
 
 // Whether nothing is wrong with the known items: each was noted by its own tag, 34 and 63 have their codes, and item 65 is there.
-fn is_clean(packet: &[u8], known: TagSet, past: &[u16; 128], present: TagSet, count: usize) -> bool
-    requires { ⌜ PastIn (length (now packet)) (now past) ⌝ }
-    ensures { λ r. ⌜ r ≡ cleanIn known (now (packet .entry)) (now (past .entry)) present count ⌝ }
+fn is_clean(
+    packet: &[u8],
+    known: TagSet,
+    places: &[u16; 128],
+    present: TagSet,
+    count: usize,
+) -> bool
+    requires { ⌜ PlacesIn (length (now packet)) (now places) ⌝ }
+    ensures { λ r. ⌜ r ≡ cleanIn known (now (packet .entry)) (now (places .entry)) present count ⌝ }
 {
     if tagset::size_of(present) != count {
         return false;
     }
-    if past[65] == 0 {
+    if places[65] == 0 {
         return false;
     }
-    if is_coded(packet, known, past, 34) {
-        return is_coded(packet, known, past, 63);
+    if is_coded(packet, known, places, 34) {
+        return is_coded(packet, known, places, 63);
     }
     false
 }
@@ -582,17 +622,17 @@ fn concluded(
     packet: &[u8],
     from: usize,
     known: TagSet,
-    past: &[u16; 128],
+    places: &[u16; 128],
     present: TagSet,
     passed: Passed,
 ) -> Right
-    requires { ⌜ Whole known (now packet) from passed (now past) present ⌝ }
+    requires { ⌜ Whole known (now packet) from passed (now places) present ⌝ }
     ensures { λ r. ⌜ rightSaid r ≡ rightFrom known (now (packet .entry)) from ⌝ }
 {
     match closed(packet, from, header_at(packet, passed.last)) {
         Right::Refused(refusal) => Right::Refused(refusal),
         Right::Yes => {
-            if is_clean(packet, known, past, present, passed.known) {
+            if is_clean(packet, known, places, present, passed.known) {
                 return Right::Yes;
             }
             judged(packet, from, known)
@@ -619,13 +659,13 @@ fn stopped(packet: &[u8], here: usize, count: usize) -> Refusal
     }
 }
 
-// The items, once it is known where they begin; in a column of nothing, for each tag the place past its item.
-fn check_from(packet: &[u8], from: usize, known: TagSet, past: &mut [u16; 128]) -> Checked
-    requires { ⌜ Begins known (now packet) from (now past) ⌝ }
-    ensures { λ r. ⌜ ChecksFrom known (now (packet .entry)) from r (now (past .exit)) ⌝ }
+// The items, once it is known where they begin; in a column of nothing, for each tag where its value is found.
+fn check_from(packet: &[u8], from: usize, known: TagSet, places: &mut [u16; 128]) -> Checked
+    requires { ⌜ Begins known (now packet) from (now places) ⌝ }
+    ensures { λ r. ⌜ ChecksFrom known (now (packet .entry)) from r (now (places .exit)) ⌝ }
 {
     let mut words = [0u64; 2];
-    let passed = pass(packet, from, known, past, &mut words);
+    let passed = pass(packet, from, known, places, &mut words);
     let present = TagSet {
         low: words[0],
         high: words[1],
@@ -636,7 +676,7 @@ fn check_from(packet: &[u8], from: usize, known: TagSet, past: &mut [u16; 128]) 
     if here < packet.len() {
         return Checked::Refused(stopped(packet, here, count));
     }
-    match concluded(packet, from, known, past, present, passed) {
+    match concluded(packet, from, known, places, present, passed) {
         Right::Refused(refusal) => Checked::Refused(refusal),
         Right::Yes => Checked::Accepted(Accepted {
             from,
@@ -664,36 +704,36 @@ pub fn check(packet: &[u8], known: TagSet) -> Checked
     match begun(packet, known) {
         Frame::Refused(refusal) => Checked::Refused(refusal),
         Frame::From(from) => {
-            let mut past = [0u16; 128];
-            check_from(packet, from, known, &mut past)
+            let mut places = [0u16; 128];
+            check_from(packet, from, known, &mut places)
         }
     }
 }
 
-// The answer, and an accepted packet's places: for each tag below 128 the one past its last item, 0 where there is none; at 0 that of the
-// tags from 128 on.
+// The answer, and where an accepted packet's values are found: for each tag below 128 the place past its last item, of an extended height the
+// place of its value, 0 where there is none; at 0 that of the tags from 128 on.
 pub struct Located {
     pub answer: Checked,
-    pub past: [u16; 128],
+    pub places: [u16; 128],
 }
 
-// The same, with the places at which the values end; after a refusal there are none.
+// The same, with the places at which the values are found; after a refusal there are none.
 pub fn locate(packet: &[u8], known: TagSet) -> Located
     ensures { λ r. ⌜ Locates known (now (packet .entry)) r ⌝ }
 {
-    let mut past = [0u16; 128];
+    let mut places = [0u16; 128];
     match begun(packet, known) {
         Frame::Refused(refusal) => Located {
             answer: Checked::Refused(refusal),
-            past,
+            places,
         },
         Frame::From(from) => {
-            let answer = check_from(packet, from, known, &mut past);
+            let answer = check_from(packet, from, known, &mut places);
             match answer {
-                Checked::Accepted(_) => Located { answer, past },
+                Checked::Accepted(_) => Located { answer, places },
                 Checked::Refused(_) => Located {
                     answer,
-                    past: [0u16; 128],
+                    places: [0u16; 128],
                 },
             }
         }

@@ -4,10 +4,11 @@
 -- Assumes nothing.
 use Prim.Native.Nat.{ℕ, _<_, _≤_}
 use mathlib.Core.Path.{_≡_, ap, sym, _∙_}
-use mathlib.Core.Bool.{true}
+use mathlib.Core.Bool.{Bool, true, false}
 use mathlib.Core.List.{List}
 use lib.ListN.{length, take}
 use lib.IntN.{ℤ}
+use Rattle.base.proofs.Cases.{byBool}
 use Rattle.refusal.specs.Answer.{given, refused, refusal, map}
 use Rattle.refusal.specs.Numbers.{number}
 use Rattle.refusal.specs.declared.Refusal.{Refusal}
@@ -17,6 +18,7 @@ use Rattle.tagset.specs.Sets.{holds, meet}
 use Rattle.tagset.specs.declared.TagSet.{TagSet}
 use Rattle.tagset.proofs.Laws.{Words, Included}
 use Rattle.catalogue.specs.Items.{itemOf}
+use Rattle.catalogue.specs.Extended.{isExtended}
 use Rattle.catalogue.specs.declared.Item as catalogue
 use Rattle.catalogue.specs.declared.Found.the-variants.{Known}
 use Rattle.knowing.specs.Good.{good}
@@ -28,6 +30,8 @@ use Rattle.scale.specs.declared.Code.{Code}
 use Rattle.scale.specs.declared.ToCode.the-variants as code
 use Rattle.scale.proofs.Values.{NearestValue, house-nearest}
 use Rattle.scale.proofs.Codes.{NearestCode, code-nearest}
+use Rattle.scale.proofs.Extended.{NearestHeight, CodeBelow}
+use Rattle.scale.proofs.Heights.{height-nearest, sent-below}
 use Rattle.rows.specs.declared.RowWords.{RowWords}
 use Rattle.rows.specs.Taken.{rowAt}
 use Rattle.rows.specs.Present.{presentIn}
@@ -110,12 +114,12 @@ module _ (K : TagSet) (p : List ℕ) (x : Refusal) where
   ground-never-2 f e = never-two (rows-not K p f) e
 
 -- and conversions
-module _ (tag : ℕ) (x : Refusal) where
-  pub to-house-never-2 : (stored : ℕ) → houseSaid (house.Refused x) ≡ toHouse tag stored → number (x .reason) ≡ 2 → ⊥
-  to-house-never-2 stored e = never-two (house-not tag stored) e
+module _ (tag n : ℕ) (x : Refusal) where
+  pub to-house-never-2 : (stored : ℕ) → houseSaid (house.Refused x) ≡ toHouse tag n stored → number (x .reason) ≡ 2 → ⊥
+  to-house-never-2 stored e = never-two (house-not tag n stored) e
 
-  pub to-code-never-2 : (v : ℤ) → codeSaid (code.Refused x) ≡ toCode tag v → number (x .reason) ≡ 2 → ⊥
-  to-code-never-2 v e = never-two (code-not tag v) e
+  pub to-code-never-2 : (v : ℤ) → codeSaid (code.Refused x) ≡ toCode tag n v → number (x .reason) ≡ 2 → ⊥
+  to-code-never-2 v e = never-two (code-not tag n v) e
 
 -- Demand 2: "A packet is accepted exactly when document 01 allows it."
 module _ {K : TagSet} {p : List ℕ} where
@@ -147,13 +151,28 @@ module _ {K : TagSet} {p : List ℕ} where
         let f = allowed-read K p t (a .knows) long (a .items) (a .allowed) in
         (c .answer ∙ f .0, c .table ∙ f .1)
 
--- "Each reading is the exact value to the nearest house unit; a value to be sent gets the nearest code."
-module _ (tag : ℕ) (i : catalogue.Item) (found : itemOf tag ≡ Known i) where
-  pub reading-nearest : (stored : ℕ) (h : House) → houseSaid (house.Is h) ≡ toHouse tag stored → NearestValue i stored (h .value)
-  reading-nearest stored h e = house-nearest tag stored i h found (sym e)
+-- "Each reading is the exact value to the nearest house unit; a value to be sent gets the nearest code." W-202: for an extended height a reading may
+-- be a tie, which goes upward, and "Demand 2's nearest code reads 'the code at or below' for these items".
+abbrev pub Shown : Bool → ℕ → catalogue.Item → ℕ → ℤ → Type 0
+Shown true n i stored v = NearestHeight n stored v
+Shown false n i stored v = NearestValue i stored v
 
-  pub sent-code-nearest : (v : ℤ) (c : Code) → codeSaid (code.Is c) ≡ toCode tag v → NearestCode i v (c .code)
-  sent-code-nearest v c e = code-nearest tag v i c found (sym e)
+abbrev pub Sent : Bool → ℕ → catalogue.Item → ℤ → ℕ → Type 0
+Sent true n i v stored = CodeBelow n v stored
+Sent false n i v stored = NearestCode i v stored
+
+module _ (tag n : ℕ) (i : catalogue.Item) (found : itemOf tag ≡ Known i) where
+  pub reading-nearest : (stored : ℕ) (h : House) → houseSaid (house.Is h) ≡ toHouse tag n stored → Shown (isExtended tag) n i stored (h .value)
+  reading-nearest stored h e =
+      byBool (isExtended tag)
+      (λ x. rw x (height-nearest tag n x stored h (sym e)))
+      (λ x. rw x (house-nearest tag n stored i h found x (sym e)))
+
+  pub sent-code-nearest : (v : ℤ) (c : Code) → codeSaid (code.Is c) ≡ toCode tag n v → Sent (isExtended tag) n i v (c .code)
+  sent-code-nearest v c e =
+      byBool (isExtended tag)
+      (λ x. rw x (sent-below tag n x v c (sym e)))
+      (λ x. rw x (code-nearest tag n v i c found x (sym e)))
 
 -- "The packet written from a table reads back as that table, places and checksum aside."
 pub written-reads-back : {K : TagSet} {count : ℕ} {words b o o′ : List ℕ} {w : Written} → Writes K count words b o (write.Packet w) o′

@@ -3,13 +3,13 @@
 use Prim.Native.Nat.{ℕ, zero, suc, _+_, _≤_}
 use native.Mathlib.Omega.{arith}
 use mathlib.Core.Path.{_≡_, refl, _∙_}
-use mathlib.Core.Bool.{Bool, true, false, cond, _&&_}
+use mathlib.Core.Bool.{Bool, true, false, cond, _&&_, not}
 use mathlib.Core.List.{List, [], _∷_}
 use lib.ListN.{length, take, drop}
 use lib.Dec.{ltb, eqb}
 use lib.IntN.{ℤ}
 use borrow.Author.Tests.{eqb-false, le-ltb}
-use Rattle.base.proofs.Cases.{never}
+use Rattle.base.proofs.Cases.{byBool, never}
 use Rattle.refusal.specs.Answer.{Answer, given, refused, map, then}
 use Rattle.number.specs.Stored.{valueOf}
 use Rattle.ber.specs.Read.{Read, got, broken, readLength}
@@ -21,7 +21,11 @@ use Rattle.catalogue.specs.declared.Item as catalogue
 use Rattle.catalogue.specs.declared.Found.{Found}
 use Rattle.catalogue.specs.declared.Found.the-variants.{Known, Absent}
 use Rattle.knowing.specs.Good.{good}
-use Rattle.scale.specs.Conversions.{scaledItem, converted, toHouse, toCode}
+use Rattle.catalogue.specs.Extended.{isExtended, inReach}
+use Rattle.catalogue.specs.Shapes.{lengthAllowed}
+use Rattle.scale.specs.Scales.{beyond}
+use Rattle.scale.specs.Extended.{lowEnd, highEnd}
+use Rattle.scale.specs.Conversions.{scaledItem, converted, byLength, heightGiven, toHouse, sentGiven, toCode}
 use Rattle.rows.specs.Meaning.{shapeFor}
 use Rattle.rows.specs.declared.RowWords.{RowWords}
 use Rattle.rows.specs.Taken.{rowGood, countGood}
@@ -191,13 +195,22 @@ converted-not : {A : Type 0} (n tag : ℕ) (test : catalogue.Item → Bool) (giv
 converted-not n tag test give (Known i) h = by-test (test i) gives (other h)
 converted-not n tag test give Absent h = other refl
 
-pub house-not : (tag code : ℕ) → NotTwo (toHouse tag code)
-unfolding toHouse
-house-not tag code = converted-not 20 tag _ _ (scaledItem tag) refl
+length-not : {A : Type 0} (k tag n : ℕ) (test : Bool) (give : A) → eqb k 2 ≡ false → NotTwo (byLength k tag n test give)
+length-not k tag n test give e = by-test (lengthAllowed tag n) (by-test test gives (other e)) (other refl)
 
-pub code-not : (tag : ℕ) (v : ℤ) → NotTwo (toCode tag v)
+pub house-not : (tag n code : ℕ) → NotTwo (toHouse tag n code)
+unfolding toHouse
+house-not tag n code =
+    byBool (isExtended tag)
+    (λ x. rw x (length-not 20 tag n (inReach n code) (heightGiven n code) refl))
+    (λ x. rw x (converted-not 20 tag _ _ (scaledItem tag) refl))
+
+pub code-not : (tag n : ℕ) (v : ℤ) → NotTwo (toCode tag n v)
 unfolding toCode
-code-not tag v = converted-not 21 tag _ _ (scaledItem tag) refl
+code-not tag n v =
+    byBool (isExtended tag)
+    (λ x. rw x (length-not 21 tag n (not (beyond lowEnd highEnd v)) (sentGiven n v) refl))
+    (λ x. rw x (converted-not 21 tag _ _ (scaledItem tag) refl))
 
 -- 18 alone
 pub text-not : (text o : List ℕ) → NotTwo (textAnswer text o)

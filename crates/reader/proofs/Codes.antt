@@ -15,7 +15,8 @@ use borrow.Author.Tests.{eq-eqb, ne-eqb}
 use Rattle.base.proofs.Cases.{byEq}
 use Rattle.number.specs.Stored.{Bytes, valueFrom, valueOf}
 use Rattle.number.proofs.Laws.{bytes-take, bytes-drop, bytes-value, value-bytes, value-small, bits-bytes}
-use Rattle.catalogue.specs.code.Column.{shapeByte}
+use lib.Bits.{bitAnd, and-zero-r}
+use Rattle.catalogue.specs.code.Column.{shapeMask, shapeByte}
 use Rattle.catalogue.specs.declared.Shape.{Shape}
 use Rattle.catalogue.specs.declared.Shape.the-variants.{Text, Number, Absent}
 use Rattle.rows.specs.Meaning.{markCode}
@@ -105,46 +106,63 @@ module _ (w : ℕ) (few : w ≤ 8) where
         (λ f. eq-eqb _ _ (ap (λ t. t * above) f ∙ sym top) ∙ sym (eq-eqb _ _ f))
         (λ f. ne-eqb _ _ (λ g. f (eq-of-mul-eq-mul-right above (pow-pos (64 - 8 * w)) _ _ (g ∙ top))) ∙ sym (ne-eqb _ _ f))
 
--- what the code makes of a shape's byte and a word that ends with the value
+-- what the code makes of a shape's byte, a length and a word that ends with the value
+abbrev pub widthBy : ℕ → ℕ → ℕ
+widthBy b n = bitAnd n (b % 16)
+
 pub record Tells (s : Shape) (v : List ℕ) (word : ℕ) : Type 0 where
   pub small : shapeByte s < 256
-  pub few : shapeByte s % 16 ≤ 8
-  pub code : topOf (shapeByte s % 16) word / 2 ^ (64 - 8 * (shapeByte s % 16)) ≡ codeOf (meaningOf s v)
-  pub kind : kindBy (shapeByte s) (topOf (shapeByte s % 16) word) ≡ kindOf (meaningOf s v)
+  pub few : widthBy (shapeByte s) (length v) ≤ 8
+  pub code : topOf (widthBy (shapeByte s) (length v)) word / 2 ^ (64 - 8 * widthBy (shapeByte s) (length v)) ≡ codeOf (meaningOf s v)
+  pub kind : kindBy (shapeByte s) (topOf (widthBy (shapeByte s) (length v)) word) ≡ kindOf (meaningOf s v)
 
 module _ (v : List ℕ) (word : ℕ) where
-  -- no number: a byte of no width that has no mark
-  same-kind : (b : Bool) (k : ℕ) → cond b (k + 0) k ≡ k
-  same-kind true k = omega arith
-  same-kind false k = refl
-
   code-none : topOf 0 word / 2 ^ 64 ≡ 0
   code-none = low-is 0 (omega arith) word ∙ omega arith
 
-  -- a number of its width
-  module _ (w : ℕ) (fits : Fitting w (length v)) (last : word % 256 ^ w ≡ valueOf v) where
-    tells-number : (m : Bool) (b : ℕ) → b ≡ cond m 144 16 + w → b % 16 ≡ w → b / 16 % 8 ≡ 1 → b / 128 ≡ cond m 1 0 → b < 256
-        → Tells (Number w m) v word
-    tells-number m b e width kind mark small =
+  same-kind : (c : Bool) (k : ℕ) → cond c (k + 0) k ≡ k
+  same-kind true k = omega arith
+  same-kind false k = refl
+
+  -- no number: a byte of no mask that has no mark
+  tells-bytes : (s : Shape) (k : ℕ) → shapeByte s < 256 → shapeByte s % 16 ≡ 0 → shapeByte s / 16 % 8 ≡ k → shapeByte s / 128 ≡ 0
+      → codeOf (meaningOf s v) ≡ 0 → kindOf (meaningOf s v) ≡ k → Tells s v word
+  tells-bytes s k small mask kind mark code is =
+      let w : widthBy (shapeByte s) (length v) ≡ 0 = rw mask (and-zero-r (length v)) in
+      record {
+        small = small;
+        few = omega (arith, w);
+        code = rw (w, code) code-none;
+        kind = rw (w, kind, mark, is) (same-kind (eqb (topOf 0 word) (2 ^ 63)) k);
+      }
+
+  -- a number of its length
+  module _ (last : word % 256 ^ length v ≡ valueOf v) (l m : ℕ) (k : Bool) (fits : Fitting (Number l m k) k m (length v)) where
+    tells-number : (b : ℕ) → shapeByte (Number l m k) ≡ b → b < 256 → b % 16 ≡ shapeMask (Number l m k) → b / 16 % 8 ≡ 1 → b / 128 ≡ cond k 1 0
+        → Tells (Number l m k) v word
+    tells-number b e small mask kind mark =
+        let n : ℕ = length v in
+        let w : widthBy b n ≡ n = rw mask (fits .within) in
         record {
-          small = rw (← e) small;
-          few = rw (← e, width) (fits .few);
-          code = rw (← e, width) (low-is w (fits .few) word ∙ (last ∙ sym (code-seen (length v) v w m (valueOf v))));
-          kind = rw (← e, width, kind, mark, mark-is w (fits .few) word (fits .some), last) (by-mark m (eqb (valueOf v) (markCode w)) refl);
+          small = rw e small;
+          few = rw (e, w) (fits .few);
+          code = rw (e, w) (low-is n (fits .few) word ∙ (last ∙ sym (code-seen n v l m k (valueOf v))));
+          kind = rw (e, w, kind, mark, mark-is n (fits .few) word (fits .some), last) (by-mark k (eqb (valueOf v) (markCode n)) refl (fits .one));
         }
       where
-        by-mark : (m c : Bool) → eqb (valueOf v) (markCode w) ≡ c → cond c (1 + cond m 1 0) 1 ≡ kindOf (meaningOf (Number w m) v)
-        by-mark true true f = rw f
-        by-mark true false f = rw f
-        by-mark false true f = refl
-        by-mark false false f = refl
+        by-mark : (k c : Bool) → eqb (valueOf v) (markCode (length v)) ≡ c → (k ≡ true → length v ≡ m)
+            → cond c (1 + cond k 1 0) 1 ≡ kindOf (meaningOf (Number l m k) v)
+        by-mark true true f one = rw (← one refl, f)
+        by-mark true false f one = rw (← one refl, f)
+        by-mark false true f one = refl
+        by-mark false false f one = refl
 
-  pub tells : (s : Shape) → Narrow s (length v) → ((n : ℕ) → n ≡ length v → n ≤ 8 → word % 256 ^ n ≡ valueOf v) → Tells s v word
-  tells Text f last = record { small = omega arith; few = omega arith; code = code-none; kind = same-kind (eqb (topOf 0 word) (2 ^ 63)) 3 }
-  tells (Number w true) f last =
-      tells-number w f (last w (sym (f .size)) (f .few)) true (144 + w) refl
-      (omega (arith, f .few)) (omega (arith, f .few)) (omega (arith, f .few)) (omega (arith, f .few))
-  tells (Number w false) f last =
-      tells-number w f (last w (sym (f .size)) (f .few)) false (16 + w) refl
-      (omega (arith, f .few)) (omega (arith, f .few)) (omega (arith, f .few)) (omega (arith, f .few))
-  tells Absent f last = record { small = omega arith; few = omega arith; code = code-none; kind = same-kind (eqb (topOf 0 word) (2 ^ 63)) 4 }
+  pub tells : (s : Shape) → Narrow s (length v) → (length v ≤ 8 → word % 256 ^ length v ≡ valueOf v) → Tells s v word
+  tells Text f last = tells-bytes Text 3 (omega arith) refl refl refl refl refl
+  tells (Number l m true) f last =
+      tells-number (last (f .few)) l m true f (144 + shapeMask (Number l m true)) refl
+      (omega (arith, f .mask)) (omega (arith, f .mask)) (omega (arith, f .mask)) (omega (arith, f .mask))
+  tells (Number l m false) f last =
+      tells-number (last (f .few)) l m false f (16 + shapeMask (Number l m false)) refl
+      (omega (arith, f .mask)) (omega (arith, f .mask)) (omega (arith, f .mask)) (omega (arith, f .mask))
+  tells Absent f last = tells-bytes Absent 4 (omega arith) refl refl refl refl refl

@@ -7,15 +7,17 @@ use mathlib.Core.Bool.{Bool, true}
 use mathlib.Core.List.{List, _∷_}
 use lib.ListN.{length}
 use lib.Seq.{sets}
-use borrow.Author.Tests.{eqb-true}
+use lib.Dec.{leb}
+use borrow.Author.Tests.{leb-true}
 use Rattle.base.proofs.Cases.{byBool}
+use Rattle.base.proofs.Every.{both-left, both-right}
 use Rattle.refusal.specs.Answer.{Answer, given, refused}
 use Rattle.tagset.specs.Sets.{holds}
 use Rattle.tagset.specs.declared.TagSet.{TagSet}
 use Rattle.catalogue.specs.Shapes.{shapeOf, shapeAllows}
 use Rattle.catalogue.specs.declared.Shape.{Shape}
 use Rattle.catalogue.specs.declared.Shape.the-variants.{Text, Number, Absent}
-use Rattle.catalogue.proofs.Columns.{number-some, number-width}
+use Rattle.catalogue.proofs.Columns.{number-ranged}
 use Rattle.packet.specs.Pieces.{Item}
 use Rattle.packet.specs.code.Headers.{itemBy}
 use Rattle.packet.specs.Said.{headerAt}
@@ -26,10 +28,14 @@ use Rattle.packet.proofs.Accepting.{AllFit, oneFits}
 use Rattle.reader.specs.code.Filling.{ItemAt, putRow, Narrow}
 use Rattle.reader.proofs.Laws.{row-more}
 
--- an allowed length of a number is its width, of at most eight bytes
+-- an allowed length of a number lies within its mask
 narrow-shape : (t n : ℕ) (s : Shape) → shapeOf t ≡ s → shapeAllows s n ≡ true → Narrow s n
 narrow-shape t n Text e a = tt
-narrow-shape t n (Number w m) e a = record { size = eqb-true n w a; some = number-some t w m e; few = number-width t w m e }
+narrow-shape t n (Number l m k) e a =
+    let r = number-ranged t l m k e in
+    let low : l ≤ n = leb-true l n (both-left (leb l n) _ a) in
+    let high : n ≤ m = leb-true n m (both-right (leb l n) _ a) in
+    record { some = omega (arith, r .some); few = omega (arith, r .few); within = r .within n low high; mask = r .mask; one = λ x. omega (arith, r .one x) }
 narrow-shape t n Absent e a = tt
 
 narrow-known : (K : ℕ → Bool) (t n : ℕ) → (K t ≡ true → shapeAllows (shapeOf t) n ≡ true) → Narrow (shapeFor K t) n
@@ -38,7 +44,7 @@ narrow-known K t n a = byBool (K t) (λ e. rw e (narrow-shape t n (shapeOf t) re
 
 first-fits : {K : ℕ → Bool} {i : Item} {is : List Item} → AllFit K (i ∷ is) → K (i .piece .tag) ≡ true
     → shapeAllows (shapeOf (i .piece .tag)) (length (i .piece .value)) ≡ true
-first-fits (oneFits a f) = a
+first-fits (oneFits a f) k = a k .size
 
 rest-fits : {K : ℕ → Bool} {i : Item} {is : List Item} → AllFit K (i ∷ is) → AllFit K is
 rest-fits (oneFits a f) = f

@@ -113,7 +113,8 @@ fn kind_by(byte: u64, top: u64) -> u64
     kind
 }
 
-// The row of an item. The eight bytes that end with its value are there, for it stands past the key.
+// The row of an item. The eight bytes that end with its value are there, for it stands past the key; of them a number has as many as its length,
+// which lies within the mask, and text and carried bytes have none.
 fn row_of(packet: &[u8], column: &[u8; 128], known: TagSet, item: Header) -> RowWords
     requires { ⌜ (now column ≡ shapeColumn) × (item .place + item .size ≤ length (now packet)) × (length (now packet) ≤ 8192)
         × Narrow (shapeFor (holds known) (item .tag)) (item .size) × (8 ≤ item .place + item .size) ⌝ }
@@ -121,10 +122,10 @@ fn row_of(packet: &[u8], column: &[u8; 128], known: TagSet, item: Header) -> Row
 {
     let end = item.place + item.size;
     let byte = byte_for(column, known, item.tag);
-    let width = byte % 16;
-    let top = topmost(number::value(&packet[end - 8..end]), width);
     let place = item.place as u64;
     let size = item.size as u64;
+    let width = size & (byte % 16);
+    let top = topmost(number::value(&packet[end - 8..end]), width);
     RowWords {
         tag: item.tag,
         kind: kind_by(byte, top),

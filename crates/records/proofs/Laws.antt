@@ -6,23 +6,29 @@ use mathlib.Core.Path.{_≡_, refl, ap, sym, _∙_}
 use mathlib.Core.Bool.{Bool, true, false, cond}
 use mathlib.Core.List.{List}
 use lib.Dec.{eqb}
+use lib.Signed.{ltZ}
 use lib.ListN.{length, set, getD, replicate}
-use borrow.Author.Tests.{eqb-true}
+use borrow.Author.Tests.{eqb-true, eq-eqb}
+use Rattle.base.proofs.Cases.{byBool}
 use Rattle.catalogue.specs.Items.{itemOf}
-use Rattle.catalogue.specs.Shapes.{isMarked, shapeBy, shapeOf}
+use Rattle.catalogue.specs.Shapes.{isMarked, unfixed, shapeBy, shapeOf}
 use Rattle.catalogue.specs.declared.Found.the-variants.{Known, Absent}
 use Rattle.catalogue.specs.declared.Item.{Item}
 use Rattle.catalogue.specs.declared.Shape.{Shape}
 use Rattle.catalogue.specs.declared.Shape.the-variants as shape
-use Rattle.catalogue.proofs.Columns.{number-width}
+use Rattle.catalogue.proofs.Columns.{number-ranged}
 use Rattle.rows.specs.declared.RowWords.{RowWords}
 use Rattle.rows.specs.declared.Row.{Row}
 use Rattle.rows.specs.declared.Content.{Content}
 use Rattle.records.specs.Images.{widthBy, widthOf, saysFor, rowSaying, imageOf, none, putImage, imagesInto, fitting, imageTable}
 
-known-by : (i : Item) (b : Bool) → eqb (i .width) 0 ≡ b → i .width ≡ widthBy (cond b shape.Text (shape.Number (i .width) (isMarked (i .sign))))
-known-by i true e = eqb-true _ 0 e
-known-by i false e = refl
+unfixed-by : (i : Item) (b : Bool) → ltZ (i .low) (i .high) ≡ b → _≡_ {A = ℕ} 0 (widthBy (unfixed i))
+unfixed-by i true e = rw e
+unfixed-by i false e = rw e
+
+known-by : (i : Item) (b : Bool) → eqb (i .width) 0 ≡ b → i .width ≡ widthBy (cond b (unfixed i) (shape.Number (i .width) (i .width) (isMarked (i .sign))))
+known-by i true e = eqb-true _ 0 e ∙ unfixed-by i (ltZ (i .low) (i .high)) refl
+known-by i false e = rw (eq-eqb (i .width) (i .width) refl)
 
 pub width-known : (t : ℕ) (i : Item) → itemOf t ≡ Known i → i .width ≡ widthOf t
 unfolding shapeOf
@@ -33,7 +39,8 @@ unfolding shapeOf
 width-absent t e = ap (λ f. widthBy (shapeBy f)) (sym e)
 
 width-by : (t : ℕ) (s : Shape) → shapeOf t ≡ s → widthBy s ≤ 8
-width-by t (shape.Number w m) e = number-width t w m e
+width-by t (shape.Number l m k) e =
+    byBool (eqb l m) (λ q. rw q (number-ranged t l m k e .few)) (λ q. rw q (omega arith))
 width-by t shape.Text e = omega arith
 width-by t shape.Absent e = omega arith
 

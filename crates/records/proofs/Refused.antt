@@ -35,8 +35,8 @@ too-many K rs b room s h = rw (s, lt-leb _ _ h)
 
 -- every shape gives every code a kind
 kind-some : (s : Shape) (code : ℕ) → noKind ≡ kindFor s code → ⊥
-kind-some (Number width marked) code e =
-    byBool (marked && eqb code (markCode width))
+kind-some (Number least most marked) code e =
+    byBool (marked && eqb code (markCode most))
     (λ m. let z : noKind ≡ markKind = rw m at e in omega (arith, z))
     (λ m. let z : noKind ≡ readingKind = rw m at e in omega (arith, z))
 kind-some Text code e = omega (arith, e)

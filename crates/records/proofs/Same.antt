@@ -6,10 +6,10 @@ use native.Mathlib.Omega.{arith}
 use mathlib.Core.Path.{_≡_, refl, ap, sym, _∙_, subst}
 use mathlib.Core.Bool.{Bool, true, _&&_}
 use mathlib.Core.List.{List, [], _∷_}
-use lib.Dec.{ltb, eqb}
+use lib.Dec.{ltb, leb, eqb}
 use lib.ListN.{length, getD, set, replicate, length-set}
 use lib.Seq.{sets, getD-set-same, getD-set-other, length-sets}
-use borrow.Author.Tests.{eqb-true, eq-eqb, lt-ltb, le-ltb, le-leb}
+use borrow.Author.Tests.{eqb-true, leb-true, eq-eqb, lt-ltb, le-ltb, le-leb}
 use Rattle.base.proofs.Cases.{byBool, byEq, byLt, never}
 use Rattle.base.specs.Every.{Each}
 use Rattle.base.proofs.Every.{both-left, both-right, both-true}
@@ -18,12 +18,13 @@ use Rattle.refusal.proofs.Answers.{given-same, passed}
 use Rattle.tagset.specs.Sets.{holds}
 use Rattle.tagset.specs.declared.TagSet.{TagSet}
 use Rattle.knowing.specs.Good.{good}
-use Rattle.catalogue.specs.Shapes.{shapeOf}
+use Rattle.catalogue.specs.Shapes.{shapeOf, shapeAllows}
+use Rattle.catalogue.proofs.Columns.{number-ranged}
 use Rattle.catalogue.specs.declared.Shape.{Shape}
 use Rattle.catalogue.specs.declared.Shape.the-variants.{Text, Number, Absent}
 use Rattle.rows.specs.Meaning.{shapeFor, kindFor, markCode, readingKind, markKind, textKind, carriedKind, saidBy}
 use Rattle.rows.specs.declared.RowWords.{RowWords}
-use Rattle.rows.specs.Taken.{partLength, tagGood, codeGood, contentGood, rowGood, countGood, tagShown, rowAt, partOf, contentOf, rowTakenAt, GoodRow}
+use Rattle.rows.specs.Taken.{partLength, tagGood, contentGood, rowGood, countGood, tagShown, rowAt, partOf, contentOf, rowTakenAt, GoodRow}
 use Rattle.rows.specs.declared.Row.{Row}
 use Rattle.rows.specs.declared.Part.{Part}
 use Rattle.packet.specs.Judge.{Knowing}
@@ -35,18 +36,17 @@ use Rattle.writer.specs.declared.Writing.{Writing}
 use Rattle.writer.specs.Writes.{Writes, roomy, written, writtenBy, outputBy, writeAnswer, writeOutput}
 use Rattle.records.specs.Images.{widthBy, widthOf, saysFor, rowWith, rowSaying, imageOf, none, putImage, imagesInto, fitting, imageTable}
 use Rattle.records.specs.TakenOut.{Words, TakenOut, taken, takenFrom}
-use Rattle.records.proofs.Laws.{width-small}
 
 -- a row with another fourth word
 abbrev withPart : RowWords → ℕ → RowWords
 withPart r word = record { tag = r .tag; kind = r .kind; code = r .code; part = word }
 
-known-shape : (K : Knowing) (t width : ℕ) (marked : Bool) → shapeFor K t ≡ Number width marked → widthOf t ≡ width
+known-shape : (K : Knowing) (t least most : ℕ) (marked : Bool) → shapeFor K t ≡ Number least most marked → shapeOf t ≡ Number least most marked
 unfolding shapeFor
-known-shape K t width marked e =
+known-shape K t least most marked e =
     byBool (K t)
-    (λ k. let f : shapeOf t ≡ Number width marked = rw k at e in ap widthBy f)
-    (λ k. let f : Absent ≡ Number width marked = rw k at e in never (cc))
+    (λ k. rw k at e)
+    (λ k. let f : Absent ≡ Number least most marked = rw k at e in never (cc))
 
 words-of : {t t′ k k′ c c′ s s′ : ℕ} → t ≡ t′ → k ≡ k′ → c ≡ c′ → s ≡ s′
     → _≡_ {A = RowWords} (record { tag = t; kind = k; code = c; part = s }) (record { tag = t′; kind = k′; code = c′; part = s′ })
@@ -67,22 +67,30 @@ module _ (r : RowWords) where
       → part .place * 65536 + part .length ≡ word → rowWith (r .tag) kind code part ≡ withPart r word
   row-is kind code part word k c p l e = rw (lt-ltb (part .place) (2 ^ 48) p, lt-ltb (part .length) 65536 l) (words-of refl k c e)
 
-  -- a number's is the row with place 0
-  number-image : (width : ℕ) (marked : Bool) → widthOf (r .tag) ≡ width → width ≤ 8 → r .kind ≡ kindFor (Number width marked) (r .code)
-      → imageOf (taken r) ≡ withPart r width
-  number-image width marked w small k =
-      byBool (marked && eqb (r .code) (markCode width))
+  -- a number's is the row with place 0; a mark has the one length of its tag
+  number-image : (least most : ℕ) (marked : Bool) → shapeOf (r .tag) ≡ Number least most marked
+      → shapeAllows (Number least most marked) (partLength (r .part)) ≡ true → r .kind ≡ kindFor (Number least most marked) (r .code)
+      → imageOf (taken r) ≡ withPart r (partLength (r .part))
+  number-image least most marked e a k =
+      byBool (marked && eqb (r .code) (markCode most))
       (λ m.
       let two : r .kind ≡ markKind = k ∙ rw m in
-      image-said markKind two ∙ number markKind _ (sym two) (ap markCode w ∙ sym (eqb-true _ _ (both-right marked _ m))))
+      let one : least ≡ most = number-ranged (r .tag) least most marked e .one (both-left marked _ m) in
+      let size : ℕ = partLength (r .part) in
+      let low : least ≤ size = leb-true least size (both-left (leb least size) _ a) in
+      let high : size ≤ most = leb-true size most (both-right (leb least size) _ a) in
+      let n : most ≡ size = omega (arith, one, low, high) in
+      let w : widthOf (r .tag) ≡ partLength (r .part) = ap widthBy e ∙ (rw (eq-eqb least most one) n) in
+      image-said markKind two
+      ∙ number markKind _ _ (sym two) (ap markCode (w ∙ sym n) ∙ sym (eqb-true _ _ (both-right marked _ m))) w)
       (λ m.
       let one : r .kind ≡ readingKind = k ∙ rw m in
-      image-said readingKind one ∙ number readingKind _ (sym one) refl)
+      image-said readingKind one ∙ number readingKind _ _ (sym one) refl refl)
     where
-      number : (kind code : ℕ) → kind ≡ r .kind → code ≡ r .code
-          → rowWith (r .tag) kind code (record { place = 0; length = widthOf (r .tag) }) ≡ withPart r width
-      number kind code k c =
-          row-is kind code (record { place = 0; length = widthOf (r .tag) }) width k c (omega arith) (omega (arith, w, small)) (omega (arith, w))
+      number : (kind code size : ℕ) → kind ≡ r .kind → code ≡ r .code → size ≡ partLength (r .part)
+          → rowWith (r .tag) kind code (record { place = 0; length = size }) ≡ withPart r (partLength (r .part))
+      number kind code size k c s =
+          row-is kind code (record { place = 0; length = size }) (partLength (r .part)) k c (omega arith) (omega (arith, s)) (omega (arith, s))
 
   -- what a fourth word says is put together again
   part-image : (kind : ℕ) → said kind ≡ rowWith (r .tag) kind 0 (partOf (r .part)) → r .part < 2 ^ 64 → r .kind ≡ kind → r .code ≡ 0
@@ -117,18 +125,14 @@ record Alike (K : Knowing) (b : List ℕ) (r s : RowWords) : Type 0 where
   piece : pieceOf K b s ≡ pieceOf K b r
 
 module _ (K : Knowing) (b : List ℕ) (r : RowWords) where
-  number-alike : (width : ℕ) (marked : Bool) → shapeFor K (r .tag) ≡ Number width marked → width ≤ 8 → Fine (Number width marked) (length b) r
-      → Alike K b r (withPart r width)
+  number-alike : (least most : ℕ) (marked : Bool) → shapeFor K (r .tag) ≡ Number least most marked → Fine (Number least most marked) (length b) r
+      → Alike K b r (withPart r (partLength (r .part)))
   unfolding pieceOf
-  number-alike width marked f small g =
-      let size : partLength width ≡ width = omega (arith, small) in
-      let coded : codeGood (r .tag) width (r .code) ≡ true = both-right (eqb (partLength (r .part)) width) _ (g .content) in
-      let g′ : Fine (Number width marked) (length b) (withPart r width) = record {
-        tagged = g .tagged;
-        kind = g .kind;
-        content = both-true _ _ (eq-eqb _ _ size) coded;
-      } in
-      record { kept = rw f (fine-good (Number width marked) (length b) (withPart r width) g′); piece = rw f }
+  number-alike least most marked f g =
+      let n : ℕ = partLength (r .part) in
+      let size : partLength n ≡ n = omega arith in
+      let g′ : Fine (Number least most marked) (length b) (withPart r n) = record { tagged = g .tagged; kind = g .kind; content = rw size (g .content) } in
+      record { kept = rw f (fine-good (Number least most marked) (length b) (withPart r n) g′); piece = rw (f, size) }
 
   same-alike : (s : RowWords) → s ≡ r → GoodRow K b r → Alike K b r s
   same-alike s e g = record { kept = rw e g; piece = ap (pieceOf K b) e }
@@ -137,10 +141,10 @@ module _ (K : Knowing) (b : List ℕ) (r : RowWords) where
   alike h g = go (shapeFor K (r .tag)) refl (fine (shapeFor K (r .tag)) (length b) r g)
     where
       go : (s : Shape) → shapeFor K (r .tag) ≡ s → Fine s (length b) r → Alike K b r (imageOf (taken r))
-      go (Number width marked) f p =
-          let w : widthOf (r .tag) ≡ width = known-shape K (r .tag) width marked f in
-          let small : width ≤ 8 = subst (λ n. n ≤ 8) w (width-small (r .tag)) in
-          subst (Alike K b r) (sym (number-image r width marked w small (p .kind))) (number-alike width marked f small p)
+      go (Number least most marked) f p =
+          let e = known-shape K (r .tag) least most marked f in
+          let a = both-left (shapeAllows (Number least most marked) (partLength (r .part))) _ (p .content) in
+          subst (Alike K b r) (sym (number-image r least most marked e a (p .kind))) (number-alike least most marked f p)
       go Text f p = same-alike _ (part-image r textKind refl h (p .kind) (eqb-true _ _ (both-left (eqb (r .code) 0) _ (p .content)))) g
       go Absent f p = same-alike _ (part-image r carriedKind refl h (p .kind) (eqb-true _ _ (both-left (eqb (r .code) 0) _ (p .content)))) g
 

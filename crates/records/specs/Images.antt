@@ -2,7 +2,7 @@
 use Prim.Native.Nat.{ℕ, zero, suc, _+_, _*_, _^_}
 use mathlib.Core.Bool.{Bool, cond, _&&_}
 use mathlib.Core.List.{List, [], _∷_}
-use lib.Dec.{ltb}
+use lib.Dec.{ltb, eqb}
 use lib.ListN.{length, getD, replicate}
 use lib.Seq.{sets}
 use Rattle.catalogue.specs.Shapes.{shapeOf}
@@ -15,18 +15,18 @@ use Rattle.rows.specs.declared.Content.{Content}
 use Rattle.rows.specs.declared.Content.the-variants as content
 use Rattle.rows.specs.declared.Row.{Row}
 
--- the catalogue's length for a tag, 0 where a tag has none
+-- the catalogue's one length for a tag, 0 where a tag has none or more
 abbrev pub widthBy : Shape → ℕ
-widthBy (Number width marked) = width
+widthBy (Number least most marked) = cond (eqb least most) most 0
 widthBy Text = 0
 widthBy Absent = 0
 
 abbrev pub widthOf : ℕ → ℕ
 widthOf t = widthBy (shapeOf t)
 
--- what a record's content says of its item: a number has the catalogue's length, a mark the code with only the top bit
+-- what a record's content says of its item: since W-202 a reading has its length; a mark has the catalogue's, and the code with only the top bit
 abbrev pub saysFor : ℕ → Content → Meaning Part
-saysFor tag (content.Reading code) = reading code (widthOf tag)
+saysFor tag (content.Reading code length) = reading code length
 saysFor tag content.Mark = mark (markCode (widthOf tag)) (widthOf tag)
 saysFor tag (content.Text part) = text part
 saysFor tag (content.Carried part) = carried part

@@ -43,7 +43,7 @@ fn blank() -> [u64; 512]
     [0; 512]
 }
 
-// The catalogue's length for a tag, 0 where it has none.
+// The catalogue's one length for a tag, 0 where it has none or more.
 fn width_of(tag: u64) -> usize
     ensures { λ r. ⌜ r ≡ widthOf tag ⌝ }
 {
@@ -96,16 +96,17 @@ fn image_of(row: Row) -> RowWords
     ensures { λ r. ⌜ r ≡ imageOf row ⌝ }
 {
     let tag = row.tag;
-    let width = width_of(tag);
-    // a number stands at place 0
-    let number = Part {
-        place: 0,
-        length: width,
-    };
     let content = row.content;
     match content {
-        Content::Reading(code) => row_with(tag, rows::READING, code, number),
-        Content::Mark => row_with(tag, rows::MARK, mark_code(width), number),
+        // a number stands at place 0
+        Content::Reading { code, length } => {
+            row_with(tag, rows::READING, code, Part { place: 0, length })
+        }
+        Content::Mark => {
+            let length = width_of(tag);
+            let code = mark_code(length);
+            row_with(tag, rows::MARK, code, Part { place: 0, length })
+        }
         Content::Text(part) => row_with(tag, rows::TEXT, 0, part),
         Content::Carried(part) => row_with(tag, rows::CARRIED, 0, part),
     }

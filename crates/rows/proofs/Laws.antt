@@ -62,14 +62,14 @@ module _ {A : Type 0} (kind code size : ℕ) (a : A) where
 -- the kind does not look at the length, nor at what text is; and what is seen is what kind and code say of it
 module _ {A : Type 0} (size : ℕ) (a : A) where
   pub kind-seen : (s : Shape) (code : ℕ) → kindOf (seenAs s code size a) ≡ kindFor s code
-  kind-seen (Number width marked) code = byBool (marked && eqb code (markCode width)) (λ e. rw e) (λ e. rw e)
+  kind-seen (Number least most marked) code = byBool (marked && eqb code (markCode most)) (λ e. rw e) (λ e. rw e)
   kind-seen Text code = refl
   kind-seen Absent code = refl
 
-  pub code-seen : (width : ℕ) (marked : Bool) (code : ℕ) → codeOf (seenAs (Number width marked) code size a) ≡ code
-  code-seen width marked code = byBool (marked && eqb code (markCode width)) (λ e. rw e) (λ e. rw e)
+  pub code-seen : (least most : ℕ) (marked : Bool) (code : ℕ) → codeOf (seenAs (Number least most marked) code size a) ≡ code
+  code-seen least most marked code = byBool (marked && eqb code (markCode most)) (λ e. rw e) (λ e. rw e)
 
   pub seen-said : (s : Shape) (code : ℕ) → saidBy (kindFor s code) (codeOf (seenAs s code size a)) size a ≡ seenAs s code size a
-  seen-said (Number width marked) code = byBool (marked && eqb code (markCode width)) (λ e. rw e) (λ e. rw e)
+  seen-said (Number least most marked) code = byBool (marked && eqb code (markCode most)) (λ e. rw e) (λ e. rw e)
   seen-said Text code = refl
   seen-said Absent code = refl

@@ -99,12 +99,12 @@ present-count rs l o = from-count noTags no-words rs l o (λ t _. no-tags t) ∙
 -- a kind is not carried where a shape is given
 abbrev pub isShaped : Shape → Bool
 isShaped Text = true
-isShaped (Number width marked) = true
+isShaped (Number least most marked) = true
 isShaped Absent = false
 
 pub kind-shaped : {A : Type 0} (shape : Shape) (code n : ℕ) (a : A) → not (eqb (kindOf (seenAs shape code n a)) carriedKind) ≡ isShaped shape
 kind-shaped Text code n a = refl
-kind-shaped (Number width marked) code n a = byBool (marked && eqb code (markCode width)) (λ e. rw e) (λ e. rw e)
+kind-shaped (Number least most marked) code n a = byBool (marked && eqb code (markCode most)) (λ e. rw e) (λ e. rw e)
 kind-shaped Absent code n a = refl
 
 -- so of a row that is not bad
@@ -136,5 +136,5 @@ known-shaped K good t = byBool (holds K t) (λ b. rw b (shaped (shapeOf t) (know
   where
     shaped : (s : Shape) → (s ≡ Absent → ⊥) → isShaped s ≡ true
     shaped Text n = refl
-    shaped (Number width marked) n = refl
+    shaped (Number least most marked) n = refl
     shaped Absent n = absurd (n refl)

@@ -27,7 +27,7 @@ markCode width = 2 ^ (8 * width - 1)
 
 -- the one rule: by the shape that a receiver gives the tag, the number that the value is as a code, and how many bytes it has
 abbrev pub seenAs : {A : Type 0} → Shape → ℕ → ℕ → A → Meaning A
-seenAs (Number width marked) code size a = cond (marked && eqb code (markCode width)) (mark code size) (reading code size)
+seenAs (Number least most marked) code size a = cond (marked && eqb code (markCode most)) (mark code size) (reading code size)
 seenAs Text code size a = text a
 seenAs Absent code size a = carried a
 

@@ -9,6 +9,7 @@ use Rattle.refusal.specs.Answer.{Answer, given, refused, refusal}
 use Rattle.tagset.specs.Sets.{holds}
 use Rattle.tagset.specs.declared.TagSet.{TagSet}
 use Rattle.knowing.specs.Good.{good}
+use Rattle.catalogue.specs.Shapes.{shapeAllows}
 use Rattle.catalogue.specs.declared.Shape.{Shape}
 use Rattle.catalogue.specs.declared.Shape.the-variants.{Text, Number, Absent}
 use Rattle.rows.specs.Meaning.{Meaning, reading, mark, text, carried, shapeFor, kindFor, saidBy}
@@ -43,12 +44,14 @@ tagGood t = ltb 0 t && ltb t 2097152
 abbrev pub partGood : ℕ → ℕ → ℕ → Bool
 partGood room code part = eqb code 0 && leb (partPlace part + partLength part) room
 
--- "a number with another length than the catalogue's, a code too wide"; "tag 1's code is never a reason"
+-- "a number with another length than the catalogue's, a code too wide"; "tag 1's code is never a reason". Since W-202 the catalogue may
+-- allow more lengths than one, and a code is too wide for its own length.
 abbrev pub codeGood : ℕ → ℕ → ℕ → Bool
 codeGood tag width code = eqb tag 1 || ltb code (2 ^ (8 * width))
 
 abbrev pub contentGood : Shape → ℕ → RowWords → Bool
-contentGood (Number width marked) room r = eqb (partLength (r .part)) width && codeGood (r .tag) width (r .code)
+contentGood (Number least most marked) room r =
+    shapeAllows (Number least most marked) (partLength (r .part)) && codeGood (r .tag) (partLength (r .part)) (r .code)
 contentGood Text room r = partGood room (r .code) (r .part)
 contentGood Absent room r = partGood room (r .code) (r .part)
 
@@ -78,9 +81,9 @@ rowAt words n =
       part = getD words (4 * n + 3) 0;
     }
 
--- "its tag beside one of four kinds of content"
+-- "its tag beside one of four kinds of content"; W-202: a reading has its length too, since the conversions are told it
 abbrev pub contentOf : Meaning Part → Content
-contentOf (reading code size) = content.Reading code
+contentOf (reading code size) = content.Reading code size
 contentOf (mark code size) = content.Mark
 contentOf (text part) = content.Text part
 contentOf (carried part) = content.Carried part

@@ -48,9 +48,13 @@ pub fn kind_of(shape: Shape, code: u64) -> u64
     match shape {
         Shape::Text => TEXT,
         Shape::Absent => CARRIED,
-        Shape::Number { width, marked } => {
+        Shape::Number {
+            least: _,
+            most,
+            marked,
+        } => {
             if marked {
-                if is_mark(width, code) {
+                if is_mark(most, code) {
                     return MARK;
                 }
             }
@@ -103,9 +107,14 @@ fn is_good_content(shape: Shape, room: usize, row: RowWords) -> bool
     match shape {
         Shape::Text => is_good_part(room, row.code, row.part),
         Shape::Absent => is_good_part(room, row.code, row.part),
-        Shape::Number { width, marked: _ } => {
-            if (row.part % 65536) as usize == width {
-                return is_good_code(row.tag, width, row.code);
+        Shape::Number {
+            least: _,
+            most: _,
+            marked: _,
+        } => {
+            let length = (row.part % 65536) as usize;
+            if catalogue::allows_length(shape, length) {
+                return is_good_code(row.tag, length, row.code);
             }
             false
         }
@@ -124,7 +133,7 @@ fn is_good_part(room: usize, code: u64, part: u64) -> bool
     false
 }
 
-// A number: not too wide, the checksum's aside.
+// A number: not too wide for its length, the checksum's aside.
 fn is_good_code(tag: u64, width: usize, code: u64) -> bool
     ensures { λ r. ⌜ r ≡ codeGood tag width code ⌝ }
 {
@@ -143,9 +152,9 @@ pub struct Part {
     pub length: usize,
 }
 
-// What a row holds: a reading's code, a mark, or where text or carried bytes stand.
+// What a row holds: a reading's code and length, a mark, or where text or carried bytes stand.
 pub enum Content {
-    Reading(u64),
+    Reading { code: u64, length: usize },
     Mark,
     Text(Part),
     Carried(Part),
@@ -240,7 +249,10 @@ pub fn content_of(kind: u64, code: u64, part: Part) -> Content
     ensures { λ r. ⌜ r ≡ contentOf (saidBy kind code (part .length) part) ⌝ }
 {
     if kind == READING {
-        return Content::Reading(code);
+        return Content::Reading {
+            code,
+            length: part.length,
+        };
     }
     if kind == MARK {
         return Content::Mark;

@@ -1,4 +1,5 @@
 -- To a code: no other code is nearer to the value, and of two codes at equal distance the one farther from the low end, or from zero, is given.
+-- This is of the items with a width; W-202 changed it for extended heights (Heights).
 -- Assumes nothing.
 use Prim.Native.Nat.{ℕ, _-_, _*_, _<_, _≤_}
 use native.Mathlib.Omega.{arith}
@@ -11,6 +12,7 @@ use Rattle.base.proofs.Cases.{byBool, byLt, clash}
 use Rattle.base.proofs.Every.{both-left}
 use Rattle.refusal.specs.Answer.{given}
 use Rattle.catalogue.specs.Items.{itemOf}
+use Rattle.catalogue.specs.Extended.{isExtended}
 use Rattle.catalogue.specs.declared.Item.{Item}
 use Rattle.catalogue.specs.declared.Found.the-variants.{Known}
 use Rattle.scale.specs.Nearest.{nearest}
@@ -111,7 +113,8 @@ module _ (i : Item) (r : Rule i) where
   unfolding c
   nearest-code v inside number = record { none-nearer = λ d n. closest v inside d; tie-away = away v inside number }
 
-pub code-nearest : (t : ℕ) (v : ℤ) (i : Item) (c : Code) → itemOf t ≡ Known i → toCode t v ≡ given c → NearestCode i v (c .code)
-code-nearest t v i c e p =
-    let g = code-given t v i c e p in
+pub code-nearest : (t n : ℕ) (v : ℤ) (i : Item) (c : Code) → itemOf t ≡ Known i → isExtended t ≡ false → toCode t n v ≡ given c
+    → NearestCode i v (c .code)
+code-nearest t n v i c e x p =
+    let g = code-given t n v i c e x p in
     rw (g .made) (nearest-code i (scaled-rule (g .scale)) v (g .fit) (code-is-number (g .scale) v (g .fit)))

@@ -24,12 +24,12 @@ item-39 = record { known = refl; has-scale = refl }
 thousands : (n : ℕ) → nearest (n * 127000) 127 ≡ n * 1000
 thousands n = ap (λ p. nearest p 127) (let e : n * 127000 ≡ 127 * (n * 1000) = omega arith in e) ∙ nearest-whole (n * 1000) 127 (omega arith)
 
-pub degrees-above : (code : ℕ) → code < 128 → Gives (toHouse 39 code) (λ h. h .value ≡ pos (code * 1000))
+pub degrees-above : (n code : ℕ) → code < 128 → Gives (toHouse 39 n code) (λ h. h .value ≡ pos (code * 1000))
 unfolding temperature codes half origin reach steps houseOf
-degrees-above code h =
-    rw (every-code-converts item-39 code (rw (lt-ltb code 256 (omega arith))), lt-leb 128 code h, thousands code) (+ℤ-idl (pos (code * 1000)))
+degrees-above n code h =
+    rw (every-code-converts item-39 n code (rw (lt-ltb code 256 (omega arith))), lt-leb 128 code h, thousands code) (+ℤ-idl (pos (code * 1000)))
 
-pub degrees-below : (code : ℕ) → 128 ≤ code → code < 256 → Gives (toHouse 39 code) (λ h. h .value ≡ negℤ (pos ((256 - code) * 1000)))
+pub degrees-below : (n code : ℕ) → 128 ≤ code → code < 256 → Gives (toHouse 39 n code) (λ h. h .value ≡ negℤ (pos ((256 - code) * 1000)))
 unfolding temperature codes half origin reach steps houseOf
-degrees-below code h k =
-    rw (every-code-converts item-39 code (rw (lt-ltb code 256 k)), le-leb 128 code h, thousands (256 - code)) (+ℤ-idl (negℤ (pos ((256 - code) * 1000))))
+degrees-below n code h k =
+    rw (every-code-converts item-39 n code (rw (lt-ltb code 256 k)), le-leb 128 code h, thousands (256 - code)) (+ℤ-idl (negℤ (pos ((256 - code) * 1000))))

@@ -1,5 +1,6 @@
 pub mod Nearest
 pub mod Whole
+pub mod Classes
 pub mod Rule
 pub mod Items
 pub mod Sides
@@ -9,4 +10,6 @@ pub mod Values
 pub mod Codes
 pub mod Trips
 pub mod Degrees
+pub mod Extended
+pub mod Heights
 pub mod Outcomes

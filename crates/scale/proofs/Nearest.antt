@@ -29,6 +29,14 @@ nearest-only p q k n =
     let f = add-mul k 1 (2 * q) in
     div-eq-of-lt-le (2 * q) (omega (arith, n .over)) (omega (arith, n .under))
 
+-- cutting, with half of q added before
+pub cut-with-half : (p q : ℕ) → 0 < q → (p + q / 2) / q ≡ nearest p q
+cut-with-half p q some =
+    let x : ℕ = p + q / 2 in
+    let e = div-add-mod x q in
+    let m : x % q < q = mod-lt x some in
+    sym (nearest-only p q (x / q) (record { over = omega arith; under = omega arith }))
+
 -- a common factor changes nothing
 pub nearest-cancel : (k p q : ℕ) → 0 < k → nearest (k * p) (k * q) ≡ nearest p q
 unfolding nearest

@@ -26,7 +26,7 @@ use Rattle.scale.proofs.Items.{neither-left, neither-right, some-steps,
 use Rattle.scale.proofs.Items.{far-above, far-below, below-codes, under-half}
 
 -- a value so far from the origin, between the ends
-between : (low high o v : ℤ) (d r m : ℕ) (b : Bool) → o -ℤ low ≡ pos d → high -ℤ o ≡ pos r → v -ℤ o ≡ side b m
+pub between : (low high o v : ℤ) (d r m : ℕ) (b : Bool) → o -ℤ low ≡ pos d → high -ℤ o ≡ pos r → v -ℤ o ≡ side b m
     → (b ≡ true → m ≤ d) → (b ≡ false → m ≤ r) → ltZ v low || ltZ high v ≡ false
 between low high o v d r m true e f g down high-ok =
     rw (

@@ -1,5 +1,5 @@
 -- There and back: value to code to value is within half a step and half a unit; where a step exceeds a house unit a code comes back,
--- and where it is smaller a value does.
+-- and where it is smaller a value does. This is of the items with a width; W-202 changed it for extended heights (Heights).
 -- Assumes nothing.
 use Prim.Native.Nat.{ℕ, zero, suc, _+_, _-_, _*_, _<_, _≤_}
 use native.Mathlib.Omega.{arith}
@@ -14,6 +14,7 @@ use Rattle.base.proofs.Cases.{byBool, byLt, clash}
 use Rattle.base.specs.Every.{allBelow}
 use Rattle.refusal.specs.Answer.{given}
 use Rattle.catalogue.specs.Items.{groups, member, itemIn, itemOf}
+use Rattle.catalogue.specs.Extended.{isExtended}
 use Rattle.catalogue.specs.declared.Item.{Item}
 use Rattle.catalogue.specs.declared.Found.{Found}
 use Rattle.catalogue.specs.declared.Found.the-variants.{Known, Absent}
@@ -93,30 +94,30 @@ module _ (i : Item) (r : Rule i) where
       (λ e. byLt 0 m (λ h. h)
       (λ h. let z : m ≡ 0 = omega arith in absurd (omega (arith, below-some i r code n e, sym back ∙ none-back m (reach i) (steps i) (r .some) z))))
 
-pub there-and-back-within : (t : ℕ) (v : ℤ) (i : Item) (c : Code) (h : House) → itemOf t ≡ Known i → toCode t v ≡ given c → toHouse t (c .code) ≡ given h
-    → 2 * (steps i * natAbs (h .value -ℤ v)) ≤ reach i + steps i
-there-and-back-within t v i c h e p q =
-    let g = code-given t v i c e p in
-    let k = house-given t (c .code) i h e q in
+pub there-and-back-within : (t n : ℕ) (v : ℤ) (i : Item) (c : Code) (h : House) → itemOf t ≡ Known i → isExtended t ≡ false
+    → toCode t n v ≡ given c → toHouse t n (c .code) ≡ given h → 2 * (steps i * natAbs (h .value -ℤ v)) ≤ reach i + steps i
+there-and-back-within t n v i c h e x p q =
+    let g = code-given t n v i c e x p in
+    let k = house-given t n (c .code) i h e x q in
     rw (k .made, g .made) (within i (scaled-rule (g .scale)) v (g .fit))
 
 -- a step is smaller than a house unit
-pub value-code-value : (t : ℕ) (v : ℤ) (i : Item) (c : Code) → itemOf t ≡ Known i → reach i < steps i → toCode t v ≡ given c
-    → Gives (toHouse t (c .code)) (λ h. h .value ≡ v)
-value-code-value t v i c e fine p =
-    let g = code-given t v i c e p in
-    rw (g .made, every-code-converts (g .scale) (codeOf i v) (code-is-number (g .scale) v (g .fit)))
+pub value-code-value : (t n : ℕ) (v : ℤ) (i : Item) (c : Code) → itemOf t ≡ Known i → isExtended t ≡ false → reach i < steps i
+    → toCode t n v ≡ given c → Gives (toHouse t n (c .code)) (λ h. h .value ≡ v)
+value-code-value t n v i c e x fine p =
+    let g = code-given t n v i c e x p in
+    rw (g .made, every-code-converts (g .scale) n (codeOf i v) (code-is-number (g .scale) v (g .fit)))
     (value-back i (scaled-rule (g .scale)) v (g .fit) fine)
 
 -- a step exceeds a house unit
-pub code-value-code : (t code : ℕ) (i : Item) (h : House) → itemOf t ≡ Known i → steps i < reach i → toHouse t code ≡ given h
-    → Gives (toCode t (h .value)) (λ c. c .code ≡ code)
-code-value-code t code i h e coarse p =
-    let g = house-given t code i h e p in
+pub code-value-code : (t n code : ℕ) (i : Item) (h : House) → itemOf t ≡ Known i → isExtended t ≡ false → steps i < reach i
+    → toHouse t n code ≡ given h → Gives (toCode t n (h .value)) (λ c. c .code ≡ code)
+code-value-code t n code i h e x coarse p =
+    let g = house-given t n code i h e x p in
     let r = scaled-rule (g .scale) in
-    rw (g .made, every-value-converts (g .scale) (houseOf i code) (house-inside i r code (g .fit))) (code-back i r code (g .fit) coarse)
+    rw (g .made, every-value-converts (g .scale) n (houseOf i code) (house-inside i r code (g .fit))) (code-back i r code (g .fit) coarse)
 
--- which items fall where
+-- which items fall where, of those with a width
 pub isCoarse : Item → Bool
 isCoarse i = scaled i && ltb (steps i) (reach i)
 

@@ -1,13 +1,15 @@
--- To house units: the value given is the only whole number within a half of what document 01's formula gives, and a tie never occurs.
+-- To house units: the value given is the only whole number within a half of what document 01's formula gives, and a tie never occurs. This is of the
+-- items with a width; W-202 changed it for extended heights (Heights).
 -- Assumes nothing.
 use Prim.Native.Nat.{ℕ, _*_, _<_, _≤_}
 use native.Mathlib.Omega.{arith}
 use mathlib.Core.Path.{_≡_, sym, ap, ap₂, _∙_}
-use mathlib.Core.Bool.{Bool}
+use mathlib.Core.Bool.{Bool, false}
 use lib.IntN.{ℤ, pos, natAbs, _+ℤ_, _-ℤ_, _*ℤ_}
 use lib.Signed.{ltZ}
 use Rattle.refusal.specs.Answer.{given}
 use Rattle.catalogue.specs.Items.{itemOf}
+use Rattle.catalogue.specs.Extended.{isExtended}
 use Rattle.catalogue.specs.declared.Item.{Item}
 use Rattle.catalogue.specs.declared.Found.the-variants.{Known}
 use Rattle.scale.specs.Scales.{origin, reach, steps, codeBelow, codeFar, side}
@@ -51,7 +53,8 @@ nearest-value i r code = record { within = near; only = alone; no-tie = untied }
     untied : (w : ℤ) → 2 * miss i code w ≡ steps i → ⊥
     untied w h = omega (arith, near, ap (miss i code) (alone w (omega arith)))
 
-pub house-nearest : (t code : ℕ) (i : Item) (h : House) → itemOf t ≡ Known i → toHouse t code ≡ given h → NearestValue i code (h .value)
-house-nearest t code i h e p =
-    let g = house-given t code i h e p in
+pub house-nearest : (t n code : ℕ) (i : Item) (h : House) → itemOf t ≡ Known i → isExtended t ≡ false → toHouse t n code ≡ given h
+    → NearestValue i code (h .value)
+house-nearest t n code i h e x p =
+    let g = house-given t n code i h e x p in
     rw (g .made) (nearest-value i (scaled-rule (g .scale)) code)

@@ -9,9 +9,9 @@ use Rattle.catalogue.specs.Rows.{isSigned}
 use Rattle.catalogue.specs.Shapes.{isMarked}
 use Rattle.catalogue.specs.declared.Item.{Item}
 
--- an item without scale has low equal to high
+-- an item without scale has low equal to high. W-202's extended heights have no width: their scale is another, by the length (Extended)
 abbrev pub scaled : Item → Bool
-scaled i = ltZ (i .low) (i .high)
+scaled i = ltb 0 (i .width) && ltZ (i .low) (i .high)
 
 abbrev pub signed : Item → Bool
 signed i = isSigned (i .sign)
@@ -42,8 +42,11 @@ abbrev pub isNumber : Item → ℕ → Bool
 isNumber i code = ltb code (codes i) && not (isMark i code)
 
 -- a value outside the range; both ends are inside
+abbrev pub beyond : ℤ → ℤ → ℤ → Bool
+beyond low high value = ltZ value low || ltZ high value
+
 abbrev pub isOutside : Item → ℤ → Bool
-isOutside i value = ltZ value (i .low) || ltZ (i .high) value
+isOutside i value = beyond (i .low) (i .high) value
 
 -- below the origin or not, and how far from it: of a code in two's complement, and of a value
 abbrev pub codeBelow : Item → ℕ → Bool

@@ -1,5 +1,6 @@
-// Codes and house units: what a stored code stands for, and the code of a value, to the nearest, for every item that has a scale.
-// Values and codes are the nearest, and 19, 20 and 21 come exactly where document 01 has them.
+// Codes and house units: what a stored code stands for, and the code of a value, for every item that has a scale.
+// Values are the nearest, codes too, but for an extended height (W-202) the one at or below; 19, 20 and 21 come exactly where document 01
+// and W-202 have them.
 ghost use mathlib.Core.Path.{_≡_};
 ghost use mathlib.Core.Bool.{true, false, cond, _&&_};
 ghost use Prim.Native.Nat.{_-_, _*_, _/_, _^_, _<_, _≤_};
@@ -7,8 +8,10 @@ ghost use lib.Dec.{leb};
 ghost use lib.IntN.{natAbs, _-ℤ_, _+ℤ_, pos};
 ghost use lib.Signed.{mag, ltZ};
 ghost use Rattle.catalogue.specs.Shapes.{isMarked};
+ghost use Rattle.catalogue.specs.Extended.{isExtended, inReach};
 ghost use Rattle.scale.specs.Nearest.{nearest};
-ghost use Rattle.scale.specs.Scales.{isNumber, isOutside, side};
+ghost use Rattle.scale.specs.Scales.{isNumber, beyond, isOutside, side};
+ghost use Rattle.scale.specs.Extended.{lowEnd, highEnd, extendedHouse, extendedCode};
 ghost use Rattle.scale.specs.Conversions.{scaledItem, houseOf, toHouse, codeOf, toCode};
 ghost use Rattle.scale.specs.code.Rule.{Rule, Scales, Counted};
 ghost use Rattle.scale.specs.Said.{houseSaid, codeSaid};
@@ -38,10 +41,13 @@ pub enum ToCode {
     Refused(Refusal),
 }
 
-// What a code of an item stands for, in house units.
-pub fn to_house(tag: u64, code: u64) -> ToHouse
-    ensures { λ r. ⌜ houseSaid r ≡ toHouse tag code ⌝ }
+// What a code of so many bytes stands for, in house units. Only of an extended height does the length matter.
+pub fn to_house(tag: u64, length: usize, code: u64) -> ToHouse
+    ensures { λ r. ⌜ houseSaid r ≡ toHouse tag length code ⌝ }
 {
+    if catalogue::is_extended(tag) {
+        return height_to_house(tag, length, code);
+    }
     match scaled_item(tag) {
         Found::Known(item) => {
             if is_number(item, code) {
@@ -55,13 +61,16 @@ pub fn to_house(tag: u64, code: u64) -> ToHouse
     }
 }
 
-// The code of an item that is nearest to a value in house units.
-pub fn to_code(tag: u64, value: i64) -> ToCode
-    ensures { λ r. ⌜ codeSaid r ≡ toCode tag value ⌝ }
+// The code of so many bytes that is nearest to a value in house units, of an extended height the one at or below it.
+pub fn to_code(tag: u64, length: usize, value: i64) -> ToCode
+    ensures { λ r. ⌜ codeSaid r ≡ toCode tag length value ⌝ }
 {
+    if catalogue::is_extended(tag) {
+        return height_to_code(tag, length, value);
+    }
     match scaled_item(tag) {
         Found::Known(item) => {
-            if is_outside(item, value) {
+            if is_outside(item.low, item.high, value) {
                 return ToCode::Refused(refuse(Reason::ValueOutOfRange, tag));
             }
             ToCode::Is(Code {
@@ -83,8 +92,9 @@ fn refuse(reason: Reason, tag: u64) -> Refusal
     }
 }
 
-// The item of a tag, if it has a scale.
+// The item of a tag, if it has a scale: of all items but the extended heights that shows in the range alone.
 fn scaled_item(tag: u64) -> Found
+    requires { ⌜ isExtended tag ≡ false ⌝ }
     ensures { λ r. ⌜ r ≡ scaledItem tag ⌝ }
 {
     match items::item_of(tag) {
@@ -98,13 +108,14 @@ fn scaled_item(tag: u64) -> Found
     }
 }
 
-fn is_outside(item: Item, value: i64) -> bool
-    ensures { λ r. ⌜ r ≡ isOutside item value ⌝ }
+// Whether a value is outside a range; both ends are inside.
+fn is_outside(low: i64, high: i64, value: i64) -> bool
+    ensures { λ r. ⌜ r ≡ beyond low high value ⌝ }
 {
-    if value < item.low {
+    if value < low {
         return true;
     }
-    item.high < value
+    high < value
 }
 
 // How many codes a number of so many bytes has.
@@ -278,4 +289,95 @@ fn code_of(item: Item, value: i64) -> u64
         return turned(s.codes, value < origin, far);
     }
     far
+}
+
+// The ends of the extended heights, in house units: those of their rows, so that no row is looked up.
+const LOW: i64 = -900_000;
+
+const HIGH: i64 = 40_000_000;
+
+// An extended height in house units: another length is refused before the code is looked at.
+fn height_to_house(tag: u64, length: usize, code: u64) -> ToHouse
+    requires { ⌜ isExtended tag ≡ true ⌝ }
+    ensures { λ r. ⌜ houseSaid r ≡ toHouse tag length code ⌝ }
+{
+    if is_height_length(length) {
+        if catalogue::is_in_reach(length, code) {
+            return ToHouse::Is(House {
+                value: height_of(length, code),
+            });
+        }
+        return ToHouse::Refused(refuse(Reason::NotANumber, tag));
+    }
+    ToHouse::Refused(refuse(Reason::NoScale, tag))
+}
+
+// The code of an extended height: another length is refused before the value is looked at.
+fn height_to_code(tag: u64, length: usize, value: i64) -> ToCode
+    requires { ⌜ isExtended tag ≡ true ⌝ }
+    ensures { λ r. ⌜ codeSaid r ≡ toCode tag length value ⌝ }
+{
+    if is_height_length(length) {
+        if is_outside(LOW, HIGH, value) {
+            return ToCode::Refused(refuse(Reason::ValueOutOfRange, tag));
+        }
+        return ToCode::Is(Code {
+            code: height_code(length, value),
+        });
+    }
+    ToCode::Refused(refuse(Reason::NoScale, tag))
+}
+
+// Whether an extended height may have so many bytes.
+fn is_height_length(length: usize) -> bool
+    ensures { λ r. ⌜ r ≡ (leb 2 length && leb length 4) ⌝ }
+{
+    if 2 <= length {
+        return length <= 4;
+    }
+    false
+}
+
+// So many codes as two to this are two metres, 2000 house units: a byte more makes a step 256 times as fine.
+fn fineness(length: usize) -> usize
+    requires { ⌜ (2 ≤ length) × (length ≤ 4) ⌝ }
+    ensures { λ r. ⌜ r ≡ 8 * length - 16 ⌝ }
+{
+    8 * length - 16
+}
+
+// Half of a unit of so many parts: added before the cut, it makes the cut the nearest, a tie going up.
+fn half_of(unit: u64) -> u64
+    requires { ⌜ 0 < unit ⌝ }
+    ensures { λ r. ⌜ r ≡ unit / 2 ⌝ }
+{
+    unit / 2
+}
+
+// What a code in reach stands for: parts of which so many as two to the shift are one house unit.
+fn height_of(length: usize, code: u64) -> i64
+    requires { ⌜ inReach length code ≡ true ⌝ }
+    ensures { λ r. ⌜ r ≡ extendedHouse length code ⌝ }
+{
+    let shift = fineness(length);
+    let units = (code * 2000 + half_of(1 << shift)) >> shift;
+    placed(LOW, false, units)
+}
+
+// So many whole steps are so many parts, 2000 to a step: sending cuts down.
+fn whole_steps(parts: u64) -> u64
+    requires { ⌜ parts < 2 ^ 63 ⌝ }
+    ensures { λ r. ⌜ r ≡ parts / 2000 ⌝ }
+{
+    parts / 2000
+}
+
+// The code at or below a value between the ends.
+fn height_code(length: usize, value: i64) -> u64
+    requires { ⌜ (2 ≤ length) × (length ≤ 4) ⌝ }
+    requires { ⌜ beyond lowEnd highEnd value ≡ false ⌝ }
+    ensures { λ r. ⌜ r ≡ extendedCode length value ⌝ }
+{
+    let far = up_to(LOW, value);
+    whole_steps(far << fineness(length))
 }

@@ -1,4 +1,5 @@
-// The conversions: tag, code, value in house units and the code that the value gives back; or tag, value and code; or a refusal.
+// The conversions: tag, code, value in house units and the code that the value gives back; or tag, value and code; or a refusal. A code has two
+// digits a byte, which tell its length.
 use crate::text::newline;
 use crate::text::tab;
 use console::decimal;
@@ -20,7 +21,7 @@ fn whole(word: u64) -> i64 {
 fn value(tag: u64, v: i64, digits: usize) {
     signed(STDOUT_FILENO, v);
     tab();
-    match scale::to_code(tag, v) {
+    match scale::to_code(tag, digits / 2, v) {
         ToCode::Is(c) => {
             io::print_hex(STDOUT_FILENO, c.code, digits);
             newline();
@@ -32,7 +33,7 @@ fn value(tag: u64, v: i64, digits: usize) {
 fn code(tag: u64, code: u64, digits: usize) {
     io::print_hex(STDOUT_FILENO, code, digits);
     tab();
-    match scale::to_house(tag, code) {
+    match scale::to_house(tag, digits / 2, code) {
         ToHouse::Is(h) => value(tag, h.value, digits),
         ToHouse::Refused(r) => refused(STDOUT_FILENO, r),
     }

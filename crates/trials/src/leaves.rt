@@ -40,9 +40,13 @@ fn put(kind: u8, value: u64) {
     newline();
 }
 
-fn number_of(width: usize, marked: bool) {
+fn number_of(least: usize, most: usize, marked: bool) {
     say(STDOUT_FILENO, b" number of ");
-    decimal(STDOUT_FILENO, width as u64);
+    decimal(STDOUT_FILENO, least as u64);
+    if least < most {
+        say(STDOUT_FILENO, b" to ");
+        decimal(STDOUT_FILENO, most as u64);
+    }
     if marked {
         say(STDOUT_FILENO, b" with a mark");
     }
@@ -53,7 +57,11 @@ fn shape(tag: u64) {
     decimal(STDOUT_FILENO, tag);
     match catalogue::shape_at(&column, tag) {
         Shape::Text => say(STDOUT_FILENO, b" text"),
-        Shape::Number { width, marked } => number_of(width, marked),
+        Shape::Number {
+            least,
+            most,
+            marked,
+        } => number_of(least, most, marked),
         Shape::Absent => say(STDOUT_FILENO, b" carried"),
     }
     newline();

@@ -8,7 +8,7 @@
 // @: heights and corners. The two words of the knowing set, the packet's bytes. Corners are asked for k from 0 to 5 and 2^64 - 1.
 // %: the listing. The size of the output, the packet's bytes. The whole output is written as for the writer.
 // $: the writer over three records. The two words of the knowing set, the size of the output, for each record its tag, its kind and two
-//    words (a code; or a place and a length), the buffer's bytes. The whole output is written as for the writer.
+//    words (a code and a length; or a place and a length), the buffer's bytes. The whole output is written as for the writer.
 // &: the walker. The two words of the knowing set, a number of steps, the packet's bytes. The value of each step is written.
 // Of these the words begin at once:
 // t, l: the tag and the length at a place. The place, the bytes.

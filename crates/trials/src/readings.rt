@@ -100,9 +100,10 @@ fn tagged(what: &[u8], tag: u64) {
     field(STDOUT_FILENO, tag);
 }
 
-fn reading_of(tag: u64, code: u64) {
+fn reading_of(tag: u64, code: u64, length: usize) {
     tagged(b"reading", tag);
     field(STDOUT_FILENO, code);
+    field(STDOUT_FILENO, length as u64);
 }
 
 fn mark_of(tag: u64) {
@@ -117,7 +118,7 @@ fn parted(what: &[u8], tag: u64, part: Part) {
 
 fn held(tag: u64, content: Content) {
     match content {
-        Content::Reading(code) => reading_of(tag, code),
+        Content::Reading { code, length } => reading_of(tag, code, length),
         Content::Mark => mark_of(tag),
         Content::Text(part) => parted(b"text", tag, part),
         Content::Carried(part) => parted(b"carried", tag, part),

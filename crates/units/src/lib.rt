@@ -39,7 +39,7 @@ pub fn unit_of(tag: u64) -> Unit
     }
     let metres = TagSet {
         low: 0x0200_0040_0260_8000,
-        high: 0x4800,
+        high: 0x0380_0000_4800,
     };
     if tagset::has(metres, tag) {
         return Unit::Metre;

@@ -6,13 +6,15 @@ use native.Mathlib.Omega.{arith}
 use native.Mathlib.Nat.{mod-eq-of-lt, pow-le-pow-right}
 use mathlib.Core.Path.{_≡_, refl, sym, ap₂, _∙_}
 use mathlib.Core.Bool.{Bool, _&&_}
-use lib.Dec.{eqb}
+use lib.Dec.{leb, eqb}
+use borrow.Author.Tests.{leb-true}
 use mathlib.Core.List.{List, [], _∷_}
 use lib.Arith.{digits-div, digits-mod}
 use lib.ListN.{length, drop, length-drop}
 use lib.Seq.{length-take-le}
 use Rattle.base.proofs.Cases.{byBool, byLt, never}
 use Rattle.base.specs.Every.{Each}
+use Rattle.base.proofs.Every.{both-right}
 use Rattle.base.proofs.Parts.{nil-at}
 use Rattle.refusal.specs.Answer.{Answer, given, refused}
 use Rattle.number.specs.Stored.{Bytes, valueOf}
@@ -21,7 +23,7 @@ use Rattle.ber.specs.Read.{readTag}
 use Rattle.tagset.specs.Sets.{holds}
 use Rattle.tagset.specs.declared.TagSet.{TagSet}
 use Rattle.knowing.specs.Good.{good}
-use Rattle.catalogue.proofs.Columns.{number-width as width-at-most}
+use Rattle.catalogue.proofs.Columns.{number-ranged}
 use Rattle.catalogue.specs.declared.Shape.{Shape}
 use Rattle.catalogue.specs.declared.Shape.the-variants.{Text, Number, Absent}
 use Rattle.rows.specs.Meaning.{shapeFor, markCode, seenAs, meaningOf, kindOf, codeOf}
@@ -36,7 +38,7 @@ use Rattle.packet.specs.declared.Header.{Header}
 use Rattle.packet.proofs.Walks.{walk-end, walk-full, walk-refused, walk-item, header-lies}
 use Rattle.packet.proofs.Accepting.{accepting}
 use Rattle.refusal.proofs.Answers.{passed}
-use Rattle.laws.proofs.Sent.{Lies, lies-bytes, bytes-back, SizedFor, number-width, accepted-lie, accepted-sized}
+use Rattle.laws.proofs.Sent.{Lies, lies-bytes, bytes-back, SizedFor, number-allowed, accepted-lie, accepted-sized}
 use Rattle.laws.proofs.Tables.{has-received}
 use Rattle.walker.specs.Steps.{headerValue, headerPart, seenIn, rowSeen, seenBy, partBy, nextBy, seenAt, partAt, nextAt, startPlace}
 use Rattle.walker.specs.declared.Standing.{Standing}
@@ -108,24 +110,22 @@ module _ (K : TagSet) (p : List ℕ) where
     long = length-take-le (h .size) (drop (h .place) p) (rw length-drop (omega arith))
 
     -- a number has at most eight bytes
-    narrow : (w : ℕ) (m : Bool) → shapeFor (holds K) (h .tag) ≡ Number w m → w ≤ 8
+    narrow : (least m : ℕ) (k : Bool) → shapeFor (holds K) (h .tag) ≡ Number least m k → m ≤ 8
     unfolding shapeFor
-    narrow w m e =
+    narrow least m k e =
         byBool (holds K (h .tag))
-        (λ k. width-at-most (h .tag) w m (rw k at e))
-        (λ k. let f : Absent ≡ Number w m = rw k at e in never (cc))
+        (λ b. number-ranged (h .tag) least m k (rw b at e) .few)
+        (λ b. let f : Absent ≡ Number least m k = rw b at e in never (cc))
 
-    fits : (w : ℕ) (m : Bool) → shapeFor (holds K) (h .tag) ≡ Number w m → valueOf (headerValue p h) < 2 ^ 64
-    fits w m e =
-        let size : length (headerValue p h) ≡ w = number-width (holds K) (itemBy p h .piece) w m s e in
-        let few : w ≤ 8 = narrow w m e in
+    fits : (least m : ℕ) (k : Bool) → shapeFor (holds K) (h .tag) ≡ Number least m k → valueOf (headerValue p h) < 2 ^ 64
+    fits least m k e =
+        let n : ℕ = length (headerValue p h) in
+        let size : n ≤ m = leb-true n m (both-right (leb least n) _ (number-allowed (holds K) (itemBy p h .piece) least m k s e)) in
+        let few : m ≤ 8 = narrow least m k e in
         omega (
           arith,
           value-small (headerValue p h) (lies-bytes p (itemBy p h) by l),
-          size,
-          few,
-          pow-le-pow-right {n = 256}
-              (omega arith) {i = length (headerValue p h)} {j = 8} (omega (arith, size, few)),
+          pow-le-pow-right {n = 256} (omega arith) {i = n} {j = 8} (omega (arith, size, few)),
         )
 
     same-place : partPlace (h .place * 65536 + length (headerValue p h)) ≡ h .place
@@ -137,15 +137,15 @@ module _ (K : TagSet) (p : List ℕ) where
     -- kind and code do not ask where the value stands
     same-kind : (x : Shape) → shapeFor (holds K) (h .tag) ≡ x
         → kindOf (seenAs x (valueOf (headerValue p h) % 2 ^ 64) (h .size) (headerPart h)) ≡ kindOf (meaningOf x (headerValue p h))
-    same-kind (Number w m) e =
-        rw (mod-eq-of-lt (fits w m e)) (byBool (m && eqb (valueOf (headerValue p h)) (markCode w)) (λ b. rw b) (λ b. rw b))
+    same-kind (Number least m k) e =
+        rw (mod-eq-of-lt (fits least m k e)) (byBool (k && eqb (valueOf (headerValue p h)) (markCode m)) (λ b. rw b) (λ b. rw b))
     same-kind Text e = refl
     same-kind Absent e = refl
 
     same-code : (x : Shape) → shapeFor (holds K) (h .tag) ≡ x
         → codeOf (seenAs x (valueOf (headerValue p h) % 2 ^ 64) (h .size) (headerPart h)) ≡ codeOf (meaningOf x (headerValue p h))
-    same-code (Number w m) e =
-        rw (mod-eq-of-lt (fits w m e)) (byBool (m && eqb (valueOf (headerValue p h)) (markCode w)) (λ b. rw b) (λ b. rw b))
+    same-code (Number least m k) e =
+        rw (mod-eq-of-lt (fits least m k e)) (byBool (k && eqb (valueOf (headerValue p h)) (markCode m)) (λ b. rw b) (λ b. rw b))
     same-code Text e = refl
     same-code Absent e = refl
 

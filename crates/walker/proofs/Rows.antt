@@ -13,7 +13,7 @@ use Rattle.number.specs.Stored.{valueOf}
 use Rattle.tagset.specs.Sets.{holds}
 use Rattle.tagset.specs.declared.TagSet.{TagSet}
 use Rattle.catalogue.specs.Items.{itemOf}
-use Rattle.catalogue.specs.Shapes.{isMarked, shapeBy, shapeOf}
+use Rattle.catalogue.specs.Shapes.{isMarked, shapeBy, shapeOf, unfixed}
 use Rattle.catalogue.specs.declared.Found.{Found}
 use Rattle.catalogue.specs.declared.Found.the-variants.{Known}
 use Rattle.catalogue.specs.declared.Item.{Item}
@@ -36,26 +36,26 @@ module _ (K : TagSet) (t : ℕ) (b : Bool) (e : b ≡ holds K t) where
     unfolding shapeFor shapeOf
     listed = rw (← e, f, ← g, h)
 
-pub text-shape : (i : Item) → i .width ≡ 0 → Text ≡ shapeBy (Known i)
-text-shape i e = rw (eq-eqb _ _ e)
+pub unfixed-shaped : (i : Item) → i .width ≡ 0 → unfixed i ≡ shapeBy (Known i)
+unfixed-shaped i e = rw (eq-eqb (i .width) 0 e)
 
-pub number-shaped : (i : Item) → (i .width ≡ 0 → ⊥) → Number (i .width) (isMarked (i .sign)) ≡ shapeBy (Known i)
+pub number-shaped : (i : Item) → (i .width ≡ 0 → ⊥) → Number (i .width) (i .width) (isMarked (i .sign)) ≡ shapeBy (Known i)
 number-shaped i n = rw (ne-eqb _ _ n)
 
 -- a code and a kind say what is seen, whatever the length and wherever the value stands
-pub number-code : (w : ℕ) (m : Bool) (v : ℕ) → codeFor (Number w m) v ≡ v
-number-code w m v = byBool (m && eqb v (markCode w)) (λ b. rw b) (λ b. rw b)
+pub number-code : (l m : ℕ) (k : Bool) (v : ℕ) → codeFor (Number l m k) v ≡ v
+number-code l m k v = byBool (k && eqb v (markCode m)) (λ b. rw b) (λ b. rw b)
 
 pub code-by : (s x : Shape) (code v : ℕ) → s ≡ x → code ≡ codeFor x v → code ≡ codeFor s v
 code-by s x code v e f = f ∙ sym (ap (λ y. codeFor y v) e)
 
 code-seen : (s : Shape) (v n : ℕ) (part : Part) → codeFor s v ≡ codeOf (seenAs s v n part)
-code-seen (Number w m) v n part = byBool (m && eqb v (markCode w)) (λ b. rw b) (λ b. rw b)
+code-seen (Number l m k) v n part = byBool (k && eqb v (markCode m)) (λ b. rw b) (λ b. rw b)
 code-seen Text v n part = refl
 code-seen Absent v n part = refl
 
 kind-seen : (s : Shape) (v n : ℕ) (part : Part) → kindFor s (codeFor s v) ≡ kindOf (seenAs s v n part)
-kind-seen (Number w m) v n part = rw (number-code w m v) (byBool (m && eqb v (markCode w)) (λ b. rw b) (λ b. rw b))
+kind-seen (Number l m k) v n part = rw (number-code l m k v) (byBool (k && eqb v (markCode m)) (λ b. rw b) (λ b. rw b))
 kind-seen Text v n part = refl
 kind-seen Absent v n part = refl
 

@@ -6,13 +6,14 @@ ghost use Prim.Native.Nat.{_+_, _%_, _^_, _≤_};
 ghost use lib.ListN.{length};
 ghost use Rattle.number.specs.Stored.{valueOf};
 ghost use Rattle.tagset.specs.Sets.{holds, knowing};
-ghost use Rattle.catalogue.specs.Shapes.{isMarked};
+ghost use Rattle.catalogue.specs.Shapes.{isMarked, unfixed};
 ghost use Rattle.catalogue.specs.declared.Shape.the-variants.{Number};
 ghost use Rattle.rows.specs.Meaning.{shapeFor};
 ghost use Rattle.packet.specs.Verdict.{checked};
 ghost use Rattle.walker.specs.Passes.{Starts, Passes};
 ghost use Rattle.walker.specs.Steps.{codeFor, seenIn, rowSeen, seenAt, foundAt, partAt, nextAt, beginBy, beginSaid, startPlace, placeNumber};
 use catalogue::Found as Listed;
+use catalogue::Item;
 use catalogue::Shape;
 use catalogue::Sign;
 use packet::Checked;
@@ -75,22 +76,39 @@ pub fn opened(packet: &[u8], low: u64, high: u64) -> Begun
 }
 
 fn number_shape(width: usize, sign: Sign) -> Shape
-    ensures { λ r. ⌜ r ≡ Number width (isMarked sign) ⌝ }
+    ensures { λ r. ⌜ r ≡ Number width width (isMarked sign) ⌝ }
 {
     match sign {
         Sign::Marked => Shape::Number {
-            width,
+            least: width,
+            most: width,
             marked: true,
         },
         Sign::Signed => Shape::Number {
-            width,
+            least: width,
+            most: width,
             marked: false,
         },
         Sign::Unsigned => Shape::Number {
-            width,
+            least: width,
+            most: width,
             marked: false,
         },
     }
+}
+
+// The shape of an item without a width of its own: with a scale it is an extended height.
+fn unfixed_shape(item: Item) -> Shape
+    ensures { λ r. ⌜ r ≡ unfixed item ⌝ }
+{
+    if item.low < item.high {
+        return Shape::Number {
+            least: 2,
+            most: 4,
+            marked: false,
+        };
+    }
+    Shape::Text
 }
 
 // The shape that a receiver gives a tag.
@@ -104,7 +122,7 @@ fn shape_of(known: TagSet, tag: u64) -> Shape
                 let width = item.width;
                 let sign = item.sign;
                 if width == 0 {
-                    return Shape::Text;
+                    return unfixed_shape(item);
                 }
                 number_shape(width, sign)
             }
@@ -121,7 +139,8 @@ fn code_of(shape: Shape, value: &[u8]) -> u64
         Shape::Text => 0,
         Shape::Absent => 0,
         Shape::Number {
-            width: _,
+            least: _,
+            most: _,
             marked: _,
         } => number::value(value),
     }

@@ -1,4 +1,4 @@
--- Document 01, Worked values: those with a star, as one list, and one test over the definitions that the contracts cite.
+-- Document 01, Worked values: those with a star, as one list with W-202's, and one test over the definitions that the contracts cite.
 use Prim.Native.Nat.{ℕ, _-_, _*_, _+_}
 use mathlib.Core.Bool.{Bool, true, false, _&&_}
 use mathlib.Core.List.{List, [], _∷_, _++_}
@@ -68,16 +68,16 @@ numberRow place size tag code = record { tag = tag; kind = readingKind; code = c
 pub data Case : Type 0 where
   -- the bytes of a length, and what reading them finds
   lengthCase : List ℕ → Read → Case
-  -- a tag, a code and its value in house units; a tag, a value and its code
-  houseCase : ℕ → ℕ → Answer House → Case
-  codeCase : ℕ → ℤ → Answer Code → Case
+  -- a tag, a length, a code and its value in house units; a tag, a length, a value and its code
+  houseCase : ℕ → ℕ → ℕ → Answer House → Case
+  codeCase : ℕ → ℕ → ℤ → Answer Code → Case
   -- a packet, the rows that a receiver of the whole catalogue reads, and the two words beside them
   packetCase : List ℕ → List RowWords → TagSet → Case
 
 abbrev pub right : Case → Bool
 right (lengthCase bytes found) = sameRead (readLength bytes) found
-right (houseCase tag code answer) = sameAnswer sameHouse (toHouse tag code) answer
-right (codeCase tag value answer) = sameAnswer sameCode (toCode tag value) answer
+right (houseCase tag n code answer) = sameAnswer sameHouse (toHouse tag n code) answer
+right (codeCase tag n value answer) = sameAnswer sameCode (toCode tag n value) answer
 right (packetCase packet rows present) =
     sameAnswer sameFilled (readAnswer allTags packet lent) (given (record { count = length rows; present = present }))
     && same (readTable allTags packet lent) (tableWith rows)
@@ -98,20 +98,38 @@ values =
     ∷ lengthCase (0x80 ∷ 0x01 ∷ 0x01 ∷ []) broken
     ∷ lengthCase (0x85 ∷ 0x01 ∷ 0x01 ∷ 0x01 ∷ 0x01 ∷ 0x01 ∷ []) broken
     -- conversions
-    ∷ houseCase 18 0x724A0A20 (house (pos 1607192114))
-    ∷ houseCase 19 0x87F84B86 (house (negℤ (pos 1687923248)))
-    ∷ houseCase 21 0x03830926 (house (pos 68590983))
-    ∷ houseCase 64 0xDDC5 (house (pos 3118681621))
-    ∷ houseCase 26 0x8001 (house (negℤ (pos 750000)))
-    ∷ houseCase 26 0x7FFF (house (pos 750000))
-    ∷ houseCase 26 0x0001 (house (pos 23))
-    ∷ houseCase 26 0x8000 (refused 20 0 26)
-    ∷ houseCase 39 0x80 (house (negℤ (pos 128000)))
-    ∷ houseCase 15 0x0000 (house (negℤ (pos 900000)))
-    ∷ houseCase 15 0xFFFF (house (pos 19000000))
+    ∷ houseCase 18 4 0x724A0A20 (house (pos 1607192114))
+    ∷ houseCase 19 4 0x87F84B86 (house (negℤ (pos 1687923248)))
+    ∷ houseCase 21 4 0x03830926 (house (pos 68590983))
+    ∷ houseCase 64 2 0xDDC5 (house (pos 3118681621))
+    ∷ houseCase 26 2 0x8001 (house (negℤ (pos 750000)))
+    ∷ houseCase 26 2 0x7FFF (house (pos 750000))
+    ∷ houseCase 26 2 0x0001 (house (pos 23))
+    ∷ houseCase 26 2 0x8000 (refused 20 0 26)
+    ∷ houseCase 39 1 0x80 (house (negℤ (pos 128000)))
+    ∷ houseCase 15 2 0x0000 (house (negℤ (pos 900000)))
+    ∷ houseCase 15 2 0xFFFF (house (pos 19000000))
     -- a tie, and just below it
-    ∷ codeCase 36 (pos 10000) (code 26)
-    ∷ codeCase 36 (pos 9999) (code 25)
+    ∷ codeCase 36 1 (pos 10000) (code 26)
+    ∷ codeCase 36 1 (pos 9999) (code 25)
+    -- W-202: "2F921E is 23,456,234 mm", for each of the three
+    ∷ houseCase 103 3 0x2F921E (house (pos 23456234))
+    ∷ houseCase 104 3 0x2F921E (house (pos 23456234))
+    ∷ houseCase 105 3 0x2F921E (house (pos 23456234))
+    -- "a tie upward", below zero: -899,937.5
+    ∷ houseCase 103 3 0x000008 (house (negℤ (pos 899937)))
+    -- 40,000 m is inside, at each length
+    ∷ houseCase 105 2 0x4FE2 (house (pos 40000000))
+    ∷ houseCase 105 3 0x4FE200 (house (pos 40000000))
+    ∷ houseCase 105 4 0x4FE20000 (house (pos 40000000))
+    -- "19 for another length and 20 for such a code"
+    ∷ houseCase 104 5 0x2F921E (refused 19 0 104)
+    ∷ houseCase 104 2 0x4FE3 (refused 20 0 104)
+    -- "sending cuts down to the code below": "a 3-byte code whose value was rounded down comes back one lower"
+    ∷ codeCase 104 3 (pos 23456240) (code 0x2F921E)
+    ∷ codeCase 104 3 (pos 23456234) (code 0x2F921D)
+    -- "ignored at other tags"
+    ∷ houseCase 15 5 0xFFFF (house (pos 19000000))
     -- the packet: place, length, tag and code of its rows; 2 and 1 are bits of the low word, 65 is bit 1 of the high one
     ∷ packetCase packet (numberRow 19 8 2 1 ∷ numberRow 29 1 65 17 ∷ numberRow 32 2 1 25254 ∷ []) (knowing 6 2)
     ∷ []

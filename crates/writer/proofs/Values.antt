@@ -50,13 +50,9 @@ module _ (b : List ℕ) (r : RowWords) where
         }
 
     said-by : (s : Shape) → r .kind ≡ kindFor s (r .code) → contentGood s (length b) r ≡ true → Said s
-    said-by (Number w m) k g =
-        let small : r .kind < 3 = byBool (m && eqb (r .code) (markCode w)) (λ e. omega (arith, rw e at k)) (λ e. omega (arith, rw e at k)) in
-        let size : partLength (r .part) ≡ w = eqb-true _ _ (both-left (eqb (partLength (r .part)) w) _ g) in
-        record {
-          can = record { tagged = tagged; inside = λ h. absurd (omega arith) };
-          value = number-said small ∙ ap (λ n. bytesOf n (r .code)) size;
-        }
+    said-by (Number least most marked) k g =
+        let small : r .kind < 3 = byBool (marked && eqb (r .code) (markCode most)) (λ e. omega (arith, rw e at k)) (λ e. omega (arith, rw e at k)) in
+        record { can = record { tagged = tagged; inside = λ h. absurd (omega arith) }; value = number-said small }
     said-by Text k g = pointed Text (omega (arith, k)) g refl
     said-by Absent k g = pointed Absent (omega (arith, k)) g refl
 

@@ -129,7 +129,7 @@ fn copy_row(table: &mut Table, n: usize, copies: usize) {
     table.count += copies;
 }
 
-/// Gives texts other lengths and items of one byte other codes, so that 12 and 14 may come.
+/// Gives texts other lengths, items of one byte other codes and extended heights those about the highest, so that 12 and 14 may come.
 fn change_judged(table: &mut Table, dice: &mut Dice) {
     for row in table.words.chunks_exact_mut(4) {
         match (row[1], row[3] % 0x1_0000) {
@@ -137,6 +137,9 @@ fn change_judged(table: &mut Table, dice: &mut Dice) {
                 row[3] = [0, 1, 127, 128, 255, 256][dice.throw(6)];
             }
             (1, 1) => row[2] = dice.throw(10) as u64,
+            (1, length @ 2..=4) if (103..=105).contains(&row[0]) => {
+                row[2] = (0x4FE2_0000 >> (32 - 8 * length)) + dice.throw(3) as u64;
+            }
             _ => {}
         }
     }
@@ -145,15 +148,17 @@ fn change_judged(table: &mut Table, dice: &mut Dice) {
 /// Changes a word of a row.
 fn damage_row(row: &mut [u64], dice: &mut Dice) {
     let bit = 1 << dice.throw(64);
-    let tags = [0, 1, 2, 34, 65, 128, 16_383, 16_384, 2_097_151, 2_097_152];
+    let tags = [
+        0, 1, 2, 34, 65, 104, 128, 16_383, 16_384, 2_097_151, 2_097_152,
+    ];
     let bits = [0, 1, 3, 7, 8, 15, 16, 31, 32, 63];
-    let lengths = [0, 1, 4, 127, 128, 255, 256, 8_000];
+    let lengths = [0, 1, 2, 3, 4, 5, 127, 128, 255, 256, 8_000];
     let (place, length) = (row[3] >> 16, row[3] & 0xFFFF);
     match dice.throw(6) {
-        0 => row[0] = tags[dice.throw(10)],
+        0 => row[0] = tags[dice.throw(11)],
         1 => row[1] = dice.throw(6) as u64,
         2 => row[1..3].copy_from_slice(&[1 + dice.throw(2) as u64, 1 << bits[dice.throw(10)]]),
-        3 => row[3] = place << 16 | lengths[dice.throw(8)],
+        3 => row[3] = place << 16 | lengths[dice.throw(11)],
         4 => row[3] = (dice.throw(9_000) as u64) << 16 | length,
         _ => row[dice.throw(4)] ^= bit,
     }

@@ -1,6 +1,6 @@
-//! The rival's conversions: a table by tag, and a multiplication where the rule has a division.
+//! The rival's conversions: a table by tag, and a multiplication where the rule has a division; shifts for the extended heights.
 
-use super::{catalogue, refusal, Refusal, NUMBER_OR_MARK};
+use super::{catalogue, refusal, Refusal, HIGHEST, NUMBER_OR_MARK};
 
 const DEGREE: i64 = 10_000_000;
 /// A metre, a metre a second, a millibar, a percent and a degree C.
@@ -135,12 +135,42 @@ const fn scale(bits: u32, is_signed: bool, has_mark: bool, low: i64, high: i64) 
     }
 }
 
-/// The scale of a tag, if it has one.
-fn scale_of(tag: u64) -> Result<&'static Scale, Refusal> {
-    match SCALES.get(tag as usize) {
-        Some(scale) if scale.limit > 0 => Ok(scale),
+/// The scale of a tag, if it has one that goes by the tag alone.
+fn scale_of(tag: u64) -> Option<&'static Scale> {
+    SCALES.get(tag as usize).filter(|scale| scale.limit > 0)
+}
+
+const LOW: i64 = -900 * WHOLE;
+const HIGH: i64 = 40_000 * WHOLE;
+
+/// How many bits a code of this length lacks to one of four bytes, of which 2^15 are a metre.
+fn bits_lacking(tag: u64, length: usize) -> Result<u32, Refusal> {
+    match (tag, length) {
+        (103..=105, 2..=4) => Ok(32 - 8 * length as u32),
         _ => Err(refusal(19, 0, tag)),
     }
+}
+
+/// What the code of an extended height stands for: a unit is 2^12 / 125 codes of four bytes.
+#[inline(never)]
+fn extended_to_house(tag: u64, length: usize, code: u64) -> Result<i64, Refusal> {
+    let lacking = bits_lacking(tag, length)?;
+    if code > u64::from(u32::from_be_bytes(HIGHEST) >> lacking) {
+        return Err(refusal(20, 0, tag));
+    }
+    let units = ((code << lacking) * 125 + (1 << 11)) >> 12;
+    Ok(LOW + units as i64)
+}
+
+/// The code of an extended height at or below a value.
+#[inline(never)]
+fn extended_to_code(tag: u64, length: usize, value: i64) -> Result<u64, Refusal> {
+    let lacking = bits_lacking(tag, length)?;
+    if !(LOW..=HIGH).contains(&value) {
+        return Err(refusal(21, 0, tag));
+    }
+    let codes = (value.abs_diff(LOW) << 12) / 125;
+    Ok(codes >> lacking)
 }
 
 fn with_sign(far: u64, is_below: bool) -> i64 {
@@ -160,20 +190,24 @@ impl Scale {
     }
 }
 
-/// What a code stands for, in house units.
+/// What a code of so many bytes stands for, in house units.
 #[inline(never)]
-pub fn to_house(tag: u64, code: u64) -> Result<i64, Refusal> {
-    let scale = scale_of(tag)?;
+pub fn to_house(tag: u64, length: usize, code: u64) -> Result<i64, Refusal> {
+    let Some(scale) = scale_of(tag) else {
+        return extended_to_house(tag, length, code);
+    };
     if code >= scale.limit || code == scale.mark {
         return Err(refusal(20, 0, tag));
     }
     Ok(scale.house(code))
 }
 
-/// The code nearest to a value in house units.
+/// The code of so many bytes nearest to a value in house units, or at or below it.
 #[inline(never)]
-pub fn to_code(tag: u64, value: i64) -> Result<u64, Refusal> {
-    let scale = scale_of(tag)?;
+pub fn to_code(tag: u64, length: usize, value: i64) -> Result<u64, Refusal> {
+    let Some(scale) = scale_of(tag) else {
+        return extended_to_code(tag, length, value);
+    };
     if value < scale.low || value > scale.high {
         return Err(refusal(21, 0, tag));
     }

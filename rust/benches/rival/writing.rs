@@ -2,7 +2,7 @@
 
 use super::{
     catalogue, checksum, good, length_bytes, put, put_length, refusal, Refusal, Rule, CARRIED,
-    CATALOGUE, KEY, LONGEST_PACKET, MOST_ITEMS, NUMBER, NUMBER_OR_MARK, TEXT,
+    CATALOGUE, EXTENDED, HIGHEST, KEY, LONGEST_PACKET, MOST_ITEMS, NUMBER, NUMBER_OR_MARK, TEXT,
 };
 
 const LARGEST_TAG: u64 = 0x1F_FFFF;
@@ -41,12 +41,21 @@ impl Row {
 
     /// A number's row that is not bad. The code of tag 1 is never a reason.
     fn is_number(&self, rule: Rule) -> bool {
-        let shift = 64 - 8 * u32::from(rule.least);
+        if self.length.wrapping_sub(rule.least.into()) > rule.span.into() {
+            return false;
+        }
+        let shift = 64 - 8 * self.length as u32;
         let top = self.code << shift;
         let is_mark = rule.form == NUMBER_OR_MARK && top == 1 << 63;
-        self.length == rule.least.into()
-            && self.kind == 1 + u64::from(is_mark)
-            && (top >> shift == self.code || self.tag == 1)
+        self.kind == 1 + u64::from(is_mark) && (top >> shift == self.code || self.tag == 1)
+    }
+
+    /// The largest code that is not refused, of a number whose codes are limited.
+    fn largest(&self, rule: Rule) -> u64 {
+        match rule.form {
+            EXTENDED => u64::from(u32::from_be_bytes(HIGHEST)) >> (32 - 8 * self.length),
+            _ => rule.top.into(),
+        }
     }
 
     #[inline(always)]
@@ -76,9 +85,9 @@ const fn plain_readings() -> [Plain; 128] {
     readings
 }
 
-/// What is no number has a length that no row has.
+/// What is no number, or has no one length, has a length that no row has.
 const fn plain(rule: Rule) -> Plain {
-    if rule.form == TEXT || rule.form == CARRIED {
+    if rule.form == TEXT || rule.form == CARRIED || rule.form == EXTENDED {
         return Plain {
             length: usize::MAX,
             largest: 0,
@@ -165,7 +174,7 @@ fn fault(row: Row, rule: Rule, is_fresh: bool) -> Option<u64> {
         Some(12)
     } else if !is_fresh {
         Some(13)
-    } else if rule.top < 255 && row.code > rule.top.into() {
+    } else if rule.top < 255 && row.code > row.largest(rule) {
         Some(14)
     } else {
         None

@@ -4,8 +4,8 @@
 
 use oysterknoll::catalogue::{self, Unit, Value};
 use oysterknoll::{
-    corner, frame_centre_height, items, sensor_height, to_house, Content, Corner, EllipsoidHeight,
-    Height, Knowing, Refusal, Row, SeaLevelHeight, LONGEST_PACKET,
+    corner, frame_centre_height, items, sensor_height, Content, Corner, EllipsoidHeight, Height,
+    Knowing, Refusal, Row, SeaLevelHeight, LONGEST_PACKET,
 };
 use std::array::from_fn;
 use std::env::args_os;
@@ -78,7 +78,7 @@ fn aligned<const N: usize>(lines: &[[String; N]]) -> String {
 fn item_line(row: Row) -> [String; 4] {
     let name = catalogue::item(row.tag).map_or("not in the catalogue", |item| item.name);
     let (kind, value) = match row.content {
-        Content::Reading(code) => ("number", number(row.tag, code)),
+        Content::Reading { code, .. } => ("number", number(row, code)),
         Content::Mark => ("mark", mark(row.tag).to_string()),
         Content::Text(bytes) => ("text", printable(bytes)),
         Content::Carried(bytes) => ("carried", first_bytes(bytes)),
@@ -88,12 +88,12 @@ fn item_line(row: Row) -> [String; 4] {
 }
 
 /// A number in the unit that people read, or its code where there is no scale. That of the time stamp counts microseconds.
-fn number(tag: u64, code: u64) -> String {
-    let unit = catalogue::item(tag).and_then(|item| item.unit);
-    match (to_house(tag, code), unit) {
-        (Ok(value), _) => Value { value, unit }.to_string(),
-        (Err(_), Some(unit)) => format!("{code} {unit}"),
-        (Err(_), None) => code.to_string(),
+fn number(row: Row, code: u64) -> String {
+    let unit = catalogue::item(row.tag).and_then(|item| item.unit);
+    match (row.value(), unit) {
+        (Some(value), _) => Value { value, unit }.to_string(),
+        (None, Some(unit)) => format!("{code} {unit}"),
+        (None, None) => code.to_string(),
     }
 }
 

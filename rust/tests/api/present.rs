@@ -48,6 +48,9 @@ fn words_of_the_samples() {
     let tower = (0x8900_00bf_ffff_f8ee, 0x3fc_4803);
     assert_eq!(words("tower"), tower);
     assert_eq!(words("relayed"), tower);
+    // And 103 to 105.
+    let extended = (tower.0, tower.1 | 0x380_0000_0000);
+    assert_eq!(words("tower_extended"), extended);
 }
 
 #[test]

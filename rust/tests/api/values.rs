@@ -50,10 +50,17 @@ const SCALED: [(&[u64], usize, bool, i64, i64); 19] = [
 
 const TEXTS: [u64; 7] = [3, 4, 10, 11, 12, 59, 70];
 
-/// How the tag is stored, its range and whether it has a mark, by document 01.
+/// The extended heights of document 02.
+const EXTENDED: [u64; 3] = [103, 104, 105];
+
+/// How the tag is stored, its range and whether it has a mark, by documents 01 and 02.
 fn defined(tag: u64) -> Option<(Stored, Option<Range>, bool)> {
     if TEXTS.contains(&tag) {
         return Some((Stored::Text, None, false));
+    }
+    if EXTENDED.contains(&tag) {
+        let (low, high) = (-900_000, 40_000_000);
+        return Some((Stored::Extended, Some(Range { low, high }), false));
     }
     let (_, width, signed, low, high) = *SCALED.iter().find(|(tags, ..)| tags.contains(&tag))?;
     let stored = match signed {
@@ -65,7 +72,7 @@ fn defined(tag: u64) -> Option<(Stored, Option<Range>, bool)> {
 }
 
 #[test]
-fn items_are_those_of_document_01() {
+fn items_are_those_of_the_documents() {
     for tag in (0..=200).chain([u64::MAX]) {
         let found = item(tag);
         let said = found.map(|item| (item.stored, item.range, item.marked));
@@ -74,7 +81,7 @@ fn items_are_those_of_document_01() {
         assert_eq!(found.map_or(tag, |item| item.tag), tag);
     }
     assert!(all().eq((0..=200).filter_map(item)));
-    assert_eq!(all().count(), 64);
+    assert_eq!(all().count(), 67);
 }
 
 #[test]
@@ -93,6 +100,8 @@ fn names_and_units_go_with_their_items() {
     assert_eq!(said(78), (height, Some(Unit::Metre)));
     let roll = "Platform Roll Angle (Full)";
     assert_eq!(said(91), (roll, Some(Unit::Degree)));
+    let other = "Alternate Platform Ellipsoid Height Extended";
+    assert_eq!(said(105), (other, Some(Unit::Metre)));
 }
 
 #[test]
@@ -100,13 +109,14 @@ fn conversions_keep_to_the_ranges() {
     for item in all() {
         let tag = item.tag;
         match item.range {
+            // Two bytes are right for an extended height, and not asked of any other.
             Some(Range { low, high }) => {
-                assert!(to_code(tag, low).is_ok() && to_code(tag, high).is_ok());
-                assert_eq!(refused(to_code(tag, low - 1)), (21, 0, tag));
-                assert_eq!(refused(to_code(tag, high + 1)), (21, 0, tag));
-                assert_eq!(to_house(tag, to_code(tag, low).unwrap()), Ok(low));
+                assert!(to_code(tag, 2, low).is_ok() && to_code(tag, 2, high).is_ok());
+                assert_eq!(refused(to_code(tag, 2, low - 1)), (21, 0, tag));
+                assert_eq!(refused(to_code(tag, 2, high + 1)), (21, 0, tag));
+                assert_eq!(to_house(tag, 2, to_code(tag, 2, low).unwrap()), Ok(low));
             }
-            None => assert_eq!(refused(to_code(tag, 0)), (19, 0, tag)),
+            None => assert_eq!(refused(to_code(tag, 2, 0)), (19, 0, tag)),
         }
     }
 }

@@ -4,11 +4,12 @@ use super::{accepted, sample};
 use oysterknoll::*;
 
 /// Receivers of every age.
-pub const RECEIVERS: [Knowing; 4] = [
+pub const RECEIVERS: [Knowing; 5] = [
     Knowing::ALL,
     Knowing::LEAST,
     Knowing::LEAST.with(3).with(82).with(39),
     Knowing::ALL.without(75).without(59),
+    Knowing::ALL.without(103).without(104).without(105),
 ];
 
 #[test]

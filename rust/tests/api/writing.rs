@@ -2,18 +2,40 @@
 
 use super::walk::RECEIVERS;
 use super::{accepted, count, refused, sample};
-use oysterknoll::Content::{Carried, Mark, Reading, Text};
+use oysterknoll::Content::{Carried, Mark, Text};
 use oysterknoll::*;
 
-fn row(tag: u64, content: Content) -> Row {
+pub fn row(tag: u64, content: Content) -> Row {
     Row { tag, content }
 }
 
+/// A number by its code and its length.
+pub fn reading(code: u64, length: usize) -> Content<'static> {
+    Content::Reading { code, length }
+}
+
+/// Time stamp, version and checksum.
+const TIME: Row = Row {
+    tag: 2,
+    content: Content::Reading { code: 1, length: 8 },
+};
+const VERSION_17: Row = Row {
+    tag: 65,
+    content: Content::Reading {
+        code: 17,
+        length: 1,
+    },
+};
+const SUM: Row = Row {
+    tag: 1,
+    content: Content::Reading { code: 0, length: 2 },
+};
+
 /// These rows after time stamp and version and before the checksum.
-fn within<'a>(rows: &[Row<'a>]) -> Vec<Row<'a>> {
-    let mut all = vec![row(2, Reading(1)), row(65, Reading(17))];
+pub fn within<'a>(rows: &[Row<'a>]) -> Vec<Row<'a>> {
+    let mut all = vec![TIME, VERSION_17];
     all.extend(rows);
-    all.push(row(1, Reading(0)));
+    all.push(SUM);
     all
 }
 
@@ -26,12 +48,12 @@ fn refused_all(rows: &[Row], knowing: Knowing) -> (u64, usize, u64) {
 }
 
 /// What is refused of these rows with those that every packet has around them.
-fn refused_within(rows: &[Row]) -> (u64, usize, u64) {
+pub fn refused_within(rows: &[Row]) -> (u64, usize, u64) {
     refused_all(&within(rows), Knowing::ALL)
 }
 
 /// The packet of these rows, in an output with room to spare, which stays.
-fn written(rows: &[Row], knowing: Knowing) -> Vec<u8> {
+pub fn written(rows: &[Row], knowing: Knowing) -> Vec<u8> {
     let mut out = [0xee; LONGEST_PACKET + 1];
     let size = write_rows(rows, knowing, &mut out).unwrap();
     assert!(out[size..].iter().all(|byte| *byte == 0xee));
@@ -53,11 +75,7 @@ fn rows_are_written_as_their_words_are() {
 #[test]
 fn the_smallest_packet_is_built_whatever_the_checksum_row_says() {
     for code in [0, 0x62a6, u64::MAX] {
-        let rows = [
-            row(2, Reading(1)),
-            row(65, Reading(17)),
-            row(1, Reading(code)),
-        ];
+        let rows = [TIME, VERSION_17, row(1, reading(code, 2))];
         assert_eq!(written(&rows, Knowing::ALL), sample("smallest"));
     }
 }
@@ -68,7 +86,10 @@ fn what_was_built_is_read_back() {
     let inside = [
         row(26, Mark),
         row(82, Mark),
-        row(39, Reading(0x80)),
+        row(39, reading(0x80, 1)),
+        row(103, reading(0x4fe2, 2)),
+        row(104, reading(0x2f_921e, 3)),
+        row(105, reading(0, 4)),
         row(3, Text(&name)),
         row(4, Text(&name[2..])),
         row(100, Carried(&name[..4])),
@@ -78,27 +99,30 @@ fn what_was_built_is_read_back() {
     ];
     let packet = written(&within(&inside), Knowing::ALL);
     let back: Vec<Row> = items(&packet, Knowing::ALL).unwrap().collect();
-    assert_eq!(back[2..11], inside);
-    assert_eq!(back.len(), 12);
+    assert_eq!(back[2..14], inside);
+    assert_eq!(back.len(), 15);
 }
 
 #[test]
 fn a_row_that_is_bad_gets_17_with_its_number_and_tag() {
     let bad = [
-        (13, Reading(1 << 32)),
-        (13, Reading(0x8000_0000)), // the mark's code is no reading
+        (13, reading(1 << 32, 4)),
+        (13, reading(0x8000_0000, 4)), // the mark's code is no reading
+        (13, reading(1, 3)),
+        (13, reading(1, 65_536 + 4)),
+        (13, reading(1, usize::MAX)),
         (8, Mark),
         (39, Mark),
         (2, Mark),
         (3, Mark),
-        (3, Reading(1)),
+        (3, reading(1, 1)),
         (3, Carried(b"EO")),
         (5, Text(b"EO")),
         (5, Carried(b"EO")),
-        (40, Reading(1)),
+        (40, reading(1, 1)),
         (40, Mark),
         (40, Text(b"EO")),
-        (2_097_151, Reading(0)),
+        (2_097_151, reading(0, 0)),
     ];
     for (tag, content) in bad {
         let rows = [row(12, Text(b"fine")), row(tag, content)];
@@ -108,7 +132,7 @@ fn a_row_that_is_bad_gets_17_with_its_number_and_tag() {
         assert_eq!(refused_within(&[row(tag, Carried(&[]))]), (17, 2, 0));
     }
     // A receiver that does not know item 13 has to carry it.
-    let known = within(&[row(13, Reading(1))]);
+    let known = within(&[row(13, reading(1, 4))]);
     assert_eq!(refused_all(&known, Knowing::LEAST.with(3)), (17, 2, 13));
 }
 
@@ -176,18 +200,17 @@ fn rows_over_128_get_16() {
 
 #[test]
 fn a_packet_that_would_be_wrong_is_refused_by_its_own_number() {
-    let (time, version, sum) = (row(2, Reading(1)), row(65, Reading(17)), row(1, Reading(0)));
     let all = |rows: &[Row]| refused_all(rows, Knowing::ALL);
     assert_eq!(all(&[]), (9, 0, 0));
-    assert_eq!(all(&[version, time, sum]), (9, 0, 65));
-    assert_eq!(all(&[time, sum, version]), (10, 2, 65));
-    assert_eq!(all(&[time, sum]), (15, 0, 0));
+    assert_eq!(all(&[VERSION_17, TIME, SUM]), (9, 0, 65));
+    assert_eq!(all(&[TIME, SUM, VERSION_17]), (10, 2, 65));
+    assert_eq!(all(&[TIME, SUM]), (15, 0, 0));
     assert_eq!(refused_within(&[row(3, Text(&[]))]), (12, 2, 3));
     assert_eq!(refused_within(&[row(3, Text(&[b'x'; 128]))]), (12, 2, 3));
-    let twice = [row(13, Reading(1)), row(13, Mark)];
+    let twice = [row(13, reading(1, 4)), row(13, Mark)];
     assert_eq!(refused_within(&twice), (13, 3, 13));
-    assert_eq!(refused_within(&[row(34, Reading(3))]), (14, 2, 34));
-    assert_eq!(refused_within(&[row(63, Reading(9))]), (14, 2, 63));
+    assert_eq!(refused_within(&[row(34, reading(3, 1))]), (14, 2, 34));
+    assert_eq!(refused_within(&[row(63, reading(9, 1))]), (14, 2, 63));
 }
 
 #[test]

@@ -1,4 +1,4 @@
-//! Document 01's catalogue, typed from its table.
+//! Document 01's catalogue, typed from its table, and the extended heights of document 02's W-202.
 
 use Unit::{Degree, DegreeCelsius, Metre, MetreASecond, Microsecond, Millibar, Percent};
 
@@ -22,6 +22,8 @@ pub enum Form {
     },
     /// Item 39: one degree a code, no mark.
     Celsius,
+    /// Items 103 to 105: unsigned, of 2, 3 or 4 bytes, the scale going by the length; no mark.
+    Extended,
     Text,
 }
 
@@ -38,11 +40,15 @@ pub enum Unit {
 }
 
 const DEGREE: i64 = 10_000_000;
-const METRE: i64 = 1_000;
+pub const METRE: i64 = 1_000;
 const METRE_A_SECOND: i64 = 1_000;
 const MILLIBAR: i64 = 1_000;
 const PERCENT: i64 = 1_000;
 pub const DEGREE_CELSIUS: i64 = 1_000;
+
+/// The ends of the extended heights, in metres; both are inside.
+pub const EXTENDED_LOW: i64 = -900;
+pub const EXTENDED_HIGH: i64 = 40_000;
 
 const fn plain(bytes: usize, last: u64) -> Form {
     Form::Plain { bytes, last }
@@ -56,7 +62,7 @@ const fn signed(bytes: usize, high: i64) -> Form {
     Form::Signed { bytes, high }
 }
 
-const GROUPS: [(&[u64], Option<Unit>, Form); 23] = [
+const GROUPS: [(&[u64], Option<Unit>, Form); 24] = [
     (&[5, 35, 64, 71], Some(Degree), unsigned(2, 0, 360 * DEGREE)),
     (&[6], Some(Degree), signed(2, 20 * DEGREE)),
     (&[7], Some(Degree), signed(2, 50 * DEGREE)),
@@ -102,6 +108,7 @@ const GROUPS: [(&[u64], Option<Unit>, Form); 23] = [
         Some(MetreASecond),
         signed(2, 327 * METRE_A_SECOND),
     ),
+    (&[103, 104, 105], Some(Metre), Form::Extended),
     (&[1], None, plain(2, u16::MAX as u64)),
     (&[2], Some(Microsecond), plain(8, u64::MAX)),
     (&[65], None, plain(1, u8::MAX as u64)),
@@ -170,14 +177,33 @@ pub fn tags_of(set: u128) -> impl Iterator<Item = u64> {
 }
 
 impl Form {
-    /// The bytes of a number; nothing for text.
+    /// The bytes of a number that has one length; nothing for an extended height and for text.
     pub fn bytes(self) -> Option<usize> {
         match self {
             Form::Plain { bytes, .. } => Some(bytes),
             Form::Unsigned { bytes, .. } => Some(bytes),
             Form::Signed { bytes, .. } => Some(bytes),
             Form::Celsius => Some(1),
-            Form::Text => None,
+            Form::Extended | Form::Text => None,
+        }
+    }
+
+    /// Whether an item of this form may have so many bytes.
+    pub fn allows(self, length: usize) -> bool {
+        match self {
+            Form::Extended => (2..=4).contains(&length),
+            Form::Text => (1..=127).contains(&length),
+            _ => self.bytes() == Some(length),
+        }
+    }
+
+    /// The highest code of so many bytes that stands for a value the item may have: for an extended height the one of 40,000 m, which is
+    /// this many metres over the low end, each of 2^(8 × length - 17) codes.
+    pub fn last(self, length: usize) -> u64 {
+        match self {
+            Form::Extended => ((EXTENDED_HIGH - EXTENDED_LOW) as u64) << (8 * length) >> 17,
+            Form::Plain { last, .. } => last,
+            _ => u64::MAX,
         }
     }
 

@@ -254,24 +254,24 @@ impl Comparer {
         )
     }
 
-    pub fn house_of(&mut self, tag: u64, code: u64) -> Verdict {
-        let twin = self.twin.to_house(tag, code);
-        let product = oysterknoll::to_house(tag, code);
+    pub fn house_of(&mut self, tag: u64, length: usize, code: u64) -> Verdict {
+        let twin = self.twin.to_house(tag, length, code);
+        let product = oysterknoll::to_house(tag, length, code);
         let asked = Asked::of("to_house", &[], 0);
         self.agree(
-            asked.with(&[tag as usize, code as usize]),
+            asked.with(&[tag as usize, length, code as usize]),
             product,
             twin,
             true,
         )
     }
 
-    pub fn code_of(&mut self, tag: u64, value: i64) -> Verdict {
-        let twin = self.twin.to_code(tag, value);
-        let product = oysterknoll::to_code(tag, value);
+    pub fn code_of(&mut self, tag: u64, length: usize, value: i64) -> Verdict {
+        let twin = self.twin.to_code(tag, length, value);
+        let product = oysterknoll::to_code(tag, length, value);
         let asked = Asked::of("to_code", &[], 0);
         self.agree(
-            asked.with(&[tag as usize, value as usize]),
+            asked.with(&[tag as usize, length, value as usize]),
             product,
             twin,
             true,

@@ -1,7 +1,7 @@
 //! Codes and house units: edges, samples and all short codes, with the laws of nearness.
 
 use crate::bench::Bench;
-use crate::catalogue::{form, tags_of, ALL};
+use crate::catalogue::{form, tags_of, Form, ALL};
 use crate::compare::{holds, Comparer, Verdict};
 use crate::make::Maker;
 use crate::twin_answers::Scale;
@@ -26,26 +26,61 @@ const NO_SCALE: [u64; 16] = [
     u64::MAX,
 ];
 
-/// The scaled items of so many bits at most.
-pub fn scaled(most_bits: u32) -> impl Iterator<Item = (u64, Scale)> {
-    let scaled = tags_of(ALL).filter_map(|tag| Some((tag, Scale::of(tag)?)));
-    scaled.filter(move |(_, scale)| scale.bits <= most_bits)
+/// Lengths that say nothing at most tags, and at an extended height are wrong but for three of them.
+const LENGTHS: [usize; 12] = [
+    0,
+    1,
+    2,
+    3,
+    4,
+    5,
+    7,
+    8,
+    127,
+    65_536 + 3,
+    1 << 32 | 2,
+    usize::MAX,
+];
+
+/// A tag and a length, as a conversion is told them, and the scale that they have.
+#[derive(Clone, Copy)]
+pub struct Told {
+    pub tag: u64,
+    pub length: usize,
+    pub scale: Scale,
+}
+
+impl Told {
+    pub fn of(tag: u64, length: usize) -> Option<Told> {
+        let scale = Scale::of(tag, length)?;
+        Some(Told { tag, length, scale })
+    }
+}
+
+/// The scales of so many bits at most, each told with its own length: an extended height has three.
+pub fn scaled(most_bits: u32) -> impl Iterator<Item = Told> {
+    let scaled = tags_of(ALL).flat_map(|tag| {
+        let bytes = form(tag).and_then(Form::bytes);
+        let lengths = bytes.map_or(2..=4, |bytes| bytes..=bytes);
+        lengths.filter_map(move |length| Told::of(tag, length))
+    });
+    scaled.filter(move |told| told.scale.bits <= most_bits)
 }
 
 /// A code in product, twin and law.
-pub fn code_agrees(comparer: &mut Comparer, tag: u64, scale: Scale, code: u64) -> Verdict {
-    comparer.house_of(tag, code)?;
-    house_law(tag, scale, code)
+pub fn code_agrees(comparer: &mut Comparer, told: Told, code: u64) -> Verdict {
+    comparer.house_of(told.tag, told.length, code)?;
+    house_law(told, code)
 }
 
 /// A value in product, twin and law.
-pub fn value_agrees(comparer: &mut Comparer, tag: u64, scale: Scale, value: i64) -> Verdict {
-    comparer.code_of(tag, value)?;
-    code_law(tag, scale, value)
+pub fn value_agrees(comparer: &mut Comparer, told: Told, value: i64) -> Verdict {
+    comparer.code_of(told.tag, told.length, value)?;
+    code_law(told, value)
 }
 
-/// Codes at the edges of an item's width, and too wide ones.
-pub fn edge_codes(scale: Scale) -> [u64; 12] {
+/// Codes at the edges of an item's width and of its last value, and too wide ones.
+pub fn edge_codes(scale: Scale) -> [u64; 15] {
     let too_wide = 1 << scale.bits;
     let mark = too_wide / 2;
     [
@@ -61,6 +96,9 @@ pub fn edge_codes(scale: Scale) -> [u64; 12] {
         too_wide + mark,
         mark.wrapping_neg(),
         u64::MAX,
+        scale.last - 1,
+        scale.last,
+        scale.last + 1,
     ]
 }
 
@@ -101,28 +139,49 @@ pub fn ties(scale: Scale) -> impl Iterator<Item = i64> {
 /// One tag in each direction, over edges and samples.
 pub fn conversions(bench: &mut Bench) -> Verdict {
     let maker = &mut bench.maker;
-    let tag = maker.catalogue_tag();
-    let Some(scale) = Scale::of(tag) else {
-        let tag = maker.random.pick(&NO_SCALE);
+    let mut tag = maker.catalogue_tag();
+    let length = maker.told_length(tag);
+    let Some(told) = Told::of(tag, length) else {
+        if form(tag) != Some(Form::Extended) {
+            tag = maker.random.pick(&NO_SCALE);
+        }
         let any = maker.random.next();
-        bench.comparer.house_of(tag, any)?;
-        bench.comparer.house_of(tag, any & 3)?;
-        bench.comparer.code_of(tag, any as i64)?;
-        return bench.comparer.code_of(tag, 0);
+        bench.comparer.house_of(tag, length, any)?;
+        bench.comparer.house_of(tag, length, any & 3)?;
+        bench.comparer.code_of(tag, length, any as i64)?;
+        return bench.comparer.code_of(tag, length, 0);
     };
     for _ in 0..4 {
-        let any_code = maker.any_code(scale);
-        code_agrees(&mut bench.comparer, tag, scale, any_code)?;
-        let any_value = maker.any_value(scale);
-        value_agrees(&mut bench.comparer, tag, scale, any_value)?;
+        let any_code = maker.any_code(told.scale);
+        code_agrees(&mut bench.comparer, told, any_code)?;
+        let any_value = maker.any_value(told.scale);
+        value_agrees(&mut bench.comparer, told, any_value)?;
     }
     Ok(())
 }
 
 impl Maker {
+    /// Mostly a right length of an extended height; any for another tag.
+    fn told_length(&mut self, tag: u64) -> usize {
+        if form(tag) == Some(Form::Extended) && !self.random.one_in(6) {
+            self.random.between(2, 4)
+        } else {
+            self.random.pick(&LENGTHS)
+        }
+    }
+
+    /// A code of the scale's width.
+    fn scaled_code(&mut self, scale: Scale) -> u64 {
+        if scale.extended {
+            self.height_code(scale.length())
+        } else {
+            self.code(scale.length())
+        }
+    }
+
     /// A code of the item's width mostly, else one too wide.
     fn any_code(&mut self, scale: Scale) -> u64 {
-        let code = self.code(scale.bits as usize / 8);
+        let code = self.scaled_code(scale);
         match self.random.below(12) {
             0 => code | 1 << self.random.between(scale.bits as usize, 63),
             1 => scale.number(code) as i64 as u64,
@@ -132,7 +191,7 @@ impl Maker {
         }
     }
 
-    /// A value in the range mostly: any, at an end, or about a tie; else one outside.
+    /// A value in the range mostly: any, at an end, about a tie between two codes or about a code; else one outside.
     fn any_value(&mut self, scale: Scale) -> i64 {
         let about = self.random.below(5) as i64 - 2;
         match self.random.below(12) {
@@ -144,8 +203,8 @@ impl Maker {
                 .pick(&[i64::MIN, i64::MIN + 1, i64::MAX, i64::MAX - 1]),
             4 => self.random.next() as i64,
             5..=8 => {
-                let code = self.code(scale.bits as usize / 8);
-                let twice = 2 * scale.number(code) + 1;
+                let code = self.scaled_code(scale);
+                let twice = 2 * scale.number(code) + self.random.below(2) as i128;
                 let tie = scale.origin + twice * scale.range / (2 * scale.steps);
                 tie as i64 + about
             }
@@ -154,50 +213,58 @@ impl Maker {
     }
 }
 
-/// The value answered is nearer than half a unit, since a tie never occurs.
-fn house_law(tag: u64, scale: Scale, code: u64) -> Verdict {
-    let Ok(value) = oysterknoll::to_house(tag, code) else {
+/// The value answered is nearer than half a unit, since a tie never occurs; but for extended heights, of which a tie goes upward.
+fn house_law(told: Told, code: u64) -> Verdict {
+    let Told { tag, length, scale } = told;
+    let Ok(value) = oysterknoll::to_house(tag, length, code) else {
         return refused_rightly(is_code(tag, scale, code), || {
-            format!("code {code} of {tag}")
+            format!("code {code} of {tag}, {length} bytes")
         });
     };
     let distance =
         (i128::from(value) - scale.origin) * scale.steps - scale.number(code) * scale.range;
-    let is_nearest = 2 * distance.abs() < scale.steps;
-    let is_inside = (scale.low..=scale.high).contains(&value);
-    // Where a step exceeds a house unit the code comes back.
-    let back = oysterknoll::to_code(tag, value).map_err(|refusal| refusal.to_string())?;
-    let comes_back = scale.range <= scale.steps || back == code;
+    let is_nearest =
+        2 * distance.abs() < scale.steps || (scale.extended && 2 * distance == scale.steps);
+    // Where a step exceeds a house unit the code comes back; of an extended height rounded down the one below.
+    let back = oysterknoll::to_code(tag, length, value).map_err(|refusal| refusal.to_string())?;
+    let lower = u64::from(scale.extended && distance < 0);
+    let comes_back = scale.range <= scale.steps || back + lower == code;
     holds(
-        is_code(tag, scale, code) && is_nearest && is_inside && comes_back,
-        || format!("code {code} of {tag} to {value} and back to {back}"),
+        is_code(tag, scale, code) && is_nearest && scale.holds(value) && comes_back,
+        || format!("code {code} of {tag}, {length} bytes, to {value} and back to {back}"),
     )
 }
 
-/// The code answered is nearest; at a tie it is the one away from the low end, or from zero if signed.
-fn code_law(tag: u64, scale: Scale, value: i64) -> Verdict {
-    let is_inside = (scale.low..=scale.high).contains(&value);
-    let Ok(code) = oysterknoll::to_code(tag, value) else {
-        return refused_rightly(is_inside, || format!("value {value} of {tag}"));
+/// The code answered is nearest, and at a tie the one away from the low end, or from zero if signed; of an extended height it is the one
+/// at or below.
+fn code_law(told: Told, value: i64) -> Verdict {
+    let Told { tag, length, scale } = told;
+    let Ok(code) = oysterknoll::to_code(tag, length, value) else {
+        return refused_rightly(scale.holds(value), || {
+            format!("value {value} of {tag}, {length} bytes")
+        });
     };
     let answered = scale.number(code) * scale.range;
     let exact = (i128::from(value) - scale.origin) * scale.steps;
     let twice = 2 * (answered - exact).abs();
     let is_nearest = twice < scale.range || (twice == scale.range && answered.abs() > exact.abs());
-    let back = oysterknoll::to_house(tag, code).map_err(|refusal| refusal.to_string())?;
-    // Half a step plus half a unit, in units of 1 / (2 × steps).
+    let is_below = (0..scale.range).contains(&(exact - answered));
+    let is_right = if scale.extended { is_below } else { is_nearest };
+    let back = oysterknoll::to_house(tag, length, code).map_err(|refusal| refusal.to_string())?;
+    // Half a step plus half a unit, in units of 1 / (2 × steps); of an extended height a whole step.
     let apart = 2 * (i128::from(back) - i128::from(value)).abs() * scale.steps;
-    let is_near = apart <= scale.range + scale.steps;
+    let step = scale.range * if scale.extended { 2 } else { 1 };
+    let is_near = apart <= step + scale.steps;
     let comes_back = scale.range >= scale.steps || back == value;
-    let law = is_inside && is_code(tag, scale, code) && is_nearest && is_near && comes_back;
-    holds(law, || {
-        format!("value {value} of {tag} to code {code} and back to {back}")
+    let is_number = scale.holds(value) && is_code(tag, scale, code);
+    holds(is_number && is_right && is_near && comes_back, || {
+        format!("value {value} of {tag}, {length} bytes, to code {code} and back to {back}")
     })
 }
 
-/// Whether a code is neither too wide nor a mark.
+/// Whether a code is neither above the last nor a mark.
 fn is_code(tag: u64, scale: Scale, code: u64) -> bool {
-    code >> scale.bits == 0 && form(tag).and_then(|form| form.mark()) != Some(code)
+    code <= scale.last && form(tag).and_then(|form| form.mark()) != Some(code)
 }
 
 fn refused_rightly(acceptable: bool, what: impl FnOnce() -> String) -> Verdict {

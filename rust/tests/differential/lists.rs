@@ -11,6 +11,7 @@ struct Made {
     tag: u64,
     kind: u64,
     code: u64,
+    length: usize,
     value: Vec<u8>,
 }
 
@@ -25,12 +26,16 @@ pub struct List {
 const LENGTHS: [usize; 8] = [0, 1, 126, 127, 128, 129, 200, 300];
 const LONG: [usize; 4] = [65_535, 65_536, 65_537, 131_072];
 
+/// Lengths of readings, some of them far too long and some that a cut takes for 2, 3 or 4.
+const WIDTHS: [usize; 10] = [0, 1, 2, 3, 4, 5, 8, 65_536 + 2, 1 << 32 | 3, 1 << 48 | 4];
+
 impl List {
     pub fn lent(&self) -> Vec<Record<'_>> {
         let records = self.records.iter().map(|made| Record {
             tag: made.tag,
             kind: made.kind,
             code: made.code,
+            length: made.length,
             value: &made.value,
         });
         records.collect()
@@ -93,7 +98,7 @@ impl Maker {
     /// Half the time the next record that 12 or 14 may come of.
     fn record_to_change(&mut self, list: &List) -> usize {
         let n = self.random.below(list.records.len());
-        let is_judged = |made: &Made| made.kind == TEXT || matches!(made.tag, 34 | 63);
+        let is_judged = |made: &Made| made.kind == TEXT || matches!(made.tag, 34 | 63 | 103..=105);
         match list.records[n..].iter().position(is_judged) {
             Some(further) if self.random.one_in(2) => n + further,
             _ => n,
@@ -104,11 +109,12 @@ impl Maker {
     fn change_kind(&mut self, record: &mut Made) {
         record.kind = self.random.pick(&[READING, MARK, TEXT, CARRIED]);
         record.code = self.random.below(4) as u64;
+        record.length = self.random.below(9);
         let length = self.random.below(9);
         record.value.resize(length, self.random.next() as u8);
     }
 
-    /// Another code, or a value of another length.
+    /// Another code or length, or a value of another length.
     fn change_content(&mut self, record: &mut Made) {
         if record.kind >= TEXT {
             let long = self.random.one_in(24);
@@ -116,10 +122,12 @@ impl Maker {
             record.value.resize(length, self.random.next() as u8);
             return;
         }
-        record.code = match self.random.below(3) {
-            0 => self.random.below(12) as u64,
-            _ => self.odd_code(record.code, width(record.tag)),
-        };
+        match self.random.below(6) {
+            0 => record.length = self.random.pick(&WIDTHS),
+            1 => record.code = Form::Extended.last(record.length.min(4)) + 1,
+            2 | 3 => record.code = self.random.below(12) as u64,
+            _ => record.code = self.odd_code(record.code, record.length.min(8)),
+        }
         // A mark as a reading, or a mark where the item may have none.
         if self.random.one_in(4) {
             record.kind = self.random.pick(&[READING, MARK]);
@@ -179,6 +187,7 @@ impl Made {
             tag: row.tag,
             kind: row.kind,
             code: row.code,
+            length: row.length,
             value: packet[row.place..row.place + length].to_vec(),
         }
     }
@@ -188,6 +197,7 @@ fn number(tag: u64) -> Made {
     Made {
         tag,
         kind: READING,
+        length: width(tag),
         ..Made::default()
     }
 }
@@ -198,11 +208,15 @@ fn carried(tag: u64, length: usize) -> Made {
         tag,
         kind: CARRIED,
         code: 0,
+        length: 0,
         value: (0..length).map(|n| (n % 251) as u8).collect(),
     }
 }
 
-/// The bytes of a number, a text's being taken for eight.
+/// The bytes of a number; an extended height is taken for three, and what is no number for eight.
 fn width(tag: u64) -> usize {
-    form(tag).and_then(Form::bytes).unwrap_or(8)
+    match form(tag) {
+        Some(Form::Extended) => 3,
+        form => form.and_then(Form::bytes).unwrap_or(8),
+    }
 }

@@ -24,9 +24,12 @@ pub struct Maker {
 }
 
 /// The rows that heights and corners use.
-const PLACES: [u64; 22] = [
-    75, 15, 78, 25, 23, 24, 26, 27, 28, 29, 30, 31, 32, 33, 82, 83, 84, 85, 86, 87, 88, 89,
+const PLACES: [u64; 23] = [
+    75, 15, 104, 78, 25, 23, 24, 26, 27, 28, 29, 30, 31, 32, 33, 82, 83, 84, 85, 86, 87, 88, 89,
 ];
+
+/// Bits of a knowing set that are no tag of the catalogue.
+const OUTSIDE: [u32; 11] = [0, 40, 54, 58, 66, 69, 81, 92, 102, 106, 127];
 
 /// Unknown tags at the ends of the encodings, and ones that a careless shift takes for known ones.
 const ODD_TAGS: [u64; 16] = [
@@ -48,7 +51,7 @@ impl Maker {
         }
     }
 
-    /// A packet that is good for a receiver of its tags, save where 34 or 63 has another code.
+    /// A packet that is good for a receiver of its tags, save where 34 or 63 has another code or an extended height is wrong.
     pub fn good_packet(&mut self, packet: &mut Vec<u8>) {
         self.make_parts();
         self.encode_parts();
@@ -178,6 +181,7 @@ impl Maker {
                 self.push(tag, 1);
                 self.store.push(code);
             }
+            Some(Form::Extended) => self.add_height(tag),
             Some(Form::Text) => {
                 let length = self.length(1, 127);
                 self.add_value(tag, length);
@@ -192,6 +196,36 @@ impl Maker {
                 let length = self.length(0, 300);
                 self.add_value(tag, length);
             }
+        }
+    }
+
+    /// An extended height, now and then of a length that it may not have.
+    fn add_height(&mut self, tag: u64) {
+        if self.random.one_in(24) {
+            let length = self.random.below(9);
+            return self.add_value(tag, length);
+        }
+        let length = self.random.between(2, 4);
+        let code = self.height_code(length);
+        self.push(tag, length);
+        put_number(&mut self.store, code, length);
+    }
+
+    /// The code of an extended height of 2, 3 or 4 bytes, mostly in the range: at its ends, about a tie, or any.
+    pub fn height_code(&mut self, length: usize) -> u64 {
+        let last = Form::Extended.last(length);
+        // Now and then about the range below zero, which is a small part of the whole.
+        let part = self.random.pick(&[1, 1, 1, 40]);
+        let any = self.random.below(last as usize + 1) as u64 / part;
+        // Ties are the odd multiples of this; with 2 bytes there are none.
+        let half = (1_u64 << (8 * length)) >> 21;
+        match self.random.below(32) {
+            0 => 0,
+            1 | 2 => last,
+            3 => last + 1,
+            4 => self.code(length),
+            5..=12 if length > 2 => ((any | half) & !(half - 1)) + self.random.below(2) as u64,
+            _ => any,
         }
     }
 
@@ -287,7 +321,7 @@ impl Maker {
             0 => 0,
             1 => u128::MAX,
             2 => self.random.pair(),
-            3 => good | 1 << self.random.pick(&[0, 40, 54, 58, 66, 69, 81, 92, 127]),
+            3 => good | 1 << self.random.pick(&OUTSIDE),
             _ => good & !(1 << self.random.pick(&[1, 2, 65])),
         }
     }

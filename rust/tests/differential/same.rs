@@ -28,10 +28,11 @@ pub fn item(item: Item) -> TwinItem {
     let (signed, bytes) = match item.stored {
         Stored::Unsigned { width } => (false, Some(width)),
         Stored::Signed { width } => (true, Some(width)),
-        Stored::Text => (false, None),
+        Stored::Extended | Stored::Text => (false, None),
     };
     TwinItem {
         signed,
+        extended: item.stored == Stored::Extended,
         bytes,
         range: item.range.map(|range| (range.low, range.high)),
         unit: item.unit.map(unit),
@@ -54,7 +55,10 @@ fn unit(unit: Unit) -> catalogue::Unit {
 /// A record as the product takes it.
 pub fn row_of<'a>(record: &Record<'a>) -> oysterknoll::Row<'a> {
     let content = match record.kind {
-        READING => Content::Reading(record.code),
+        READING => Content::Reading {
+            code: record.code,
+            length: record.length,
+        },
         MARK => Content::Mark,
         TEXT => Content::Text(record.value),
         _ => Content::Carried(record.value),
@@ -88,7 +92,9 @@ pub fn same_rows(product: &oysterknoll::Rows, rows: &[Row], packet: &[u8]) -> bo
 /// Whether a row taken out is the twin's, its value being that part of the buffer.
 pub fn same_row(product: &oysterknoll::Row, row: &Row, buffer: &[u8]) -> bool {
     let same_content = match product.content {
-        Content::Reading(code) => row.kind == READING && code == row.code,
+        Content::Reading { code, length } => {
+            row.kind == READING && (code, length) == (row.code, row.length)
+        }
         Content::Mark => row.kind == MARK,
         Content::Text(value) => row.kind == TEXT && is_part(value, row, buffer),
         Content::Carried(value) => row.kind == CARRIED && is_part(value, row, buffer),

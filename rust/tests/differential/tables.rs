@@ -1,6 +1,6 @@
 //! Seeded row tables for the writer: read from packets, changed in a place or two, or odd from the start.
 
-use crate::catalogue::{form, ALL, SMALLEST};
+use crate::catalogue::{form, Form, ALL, SMALLEST};
 use crate::make::Maker;
 use crate::twin::{Row, Twin, CARRIED, MARK, READING, TEXT};
 use crate::twin_write::Rows;
@@ -148,6 +148,7 @@ impl Maker {
         let lengths = [0, 1, 127, 128, 129, 200];
         let length = self.random.pick(&lengths);
         let code = self.random.below(11) as u64;
+        let over = self.random.below(3) as u64;
         for words in table.words[from..].chunks_exact_mut(4) {
             let mut row = Row::from_words(words);
             if row.kind == TEXT {
@@ -155,6 +156,8 @@ impl Maker {
                 row.place = row.place.min(table.buffer.len().saturating_sub(length));
             } else if row.kind == READING && row.length == 1 {
                 row.code = code;
+            } else if row.kind == READING && form(row.tag) == Some(Form::Extended) {
+                row.code = Form::Extended.last(row.length.min(4)) + over;
             }
             words.copy_from_slice(&row.words());
         }
@@ -169,14 +172,14 @@ impl Maker {
         self.change_judged_values(table);
         let judged = first
             .chunks_exact(4)
-            .filter(|words| matches!(words[0], 34 | 63) || words[1] == TEXT);
+            .filter(|words| matches!(words[0], 34 | 63 | 103..=105) || words[1] == TEXT);
         let before: Vec<u64> = judged.flatten().copied().collect();
         table.count += before.len() / 4;
         table.words.splice(4..4, before);
     }
 
     pub fn odd_tag(&mut self, tag: u64) -> u64 {
-        let odd = [0, 1, 2, 65, 3, 34, 63, 130, LAST_TAG, LAST_TAG + 1, 1 << 63];
+        let odd = [0, 1, 2, 65, 3, 34, 63, 104, LAST_TAG, LAST_TAG + 1, 1 << 63];
         match self.random.below(4) {
             0 => tag ^ 1 << self.random.below(64),
             1 => tag.wrapping_add(128),
@@ -205,7 +208,7 @@ impl Maker {
 
     /// Another place or length.
     fn odd_value(&mut self, row: &Row, buffer: usize) -> u64 {
-        let lengths = [0, 1, 2, 4, 8, 127, 128, 129, 255, 256, 65_535];
+        let lengths = [0, 1, 2, 3, 4, 5, 8, 127, 128, 129, 255, 256, 65_535];
         let places = [0, 1, buffer, buffer + 1, (1 << 48) - 1];
         let mut changed = *row;
         match self.random.below(6) {
@@ -254,7 +257,10 @@ impl Maker {
         for n in 0..self.random.below(6) {
             let tag = if n == 0 { 2 } else { self.odd_tag(64) };
             let kind = self.random.pick(&[READING, MARK, TEXT, CARRIED, CARRIED]);
-            let length = form(tag).and_then(|form| form.bytes());
+            let length = match form(tag) {
+                Some(Form::Extended) => Some(self.random.between(2, 4)),
+                form => form.and_then(Form::bytes),
+            };
             let row = Row {
                 kind: length.map_or(kind, |_| READING),
                 code: self.random.below(2) as u64,

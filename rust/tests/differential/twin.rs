@@ -56,6 +56,16 @@ alterations! {
     BitTooManyIsTaken,
     WordsBeforeRows,
     WordsAfterSize,
+    ExtendedCodeIsNearest,
+    ExtendedTiesDown,
+    ExtendedTiesAwayFromZero,
+    ExtendedScaleOfThreeBytes,
+    FiveBytesOfHeight,
+    HighestHeightIsOutside,
+    HeightBeyondIsABadRow,
+    Item75Before104,
+    LengthAskedOfEveryTag,
+    RangeBeforeLength,
 }
 
 /// The twin, with at most one rule told wrongly.
@@ -204,11 +214,19 @@ impl Twin {
         }
     }
 
-    pub fn is_outside_its_codes(self, tag: u64, form: Form, code: u64) -> bool {
+    /// Whether a known item of this form may have so many bytes.
+    pub fn allows(self, form: Form, length: usize) -> bool {
+        let one_more = form == Form::Extended && self.is(Altered::FiveBytesOfHeight);
+        form.allows(length) || (one_more && length == 5)
+    }
+
+    /// Whether a code of so many bytes is one that 14 is given for.
+    pub fn is_outside_its_codes(self, tag: u64, form: Form, length: usize, code: u64) -> bool {
+        let last = form.last(length);
         match form {
             Form::Plain { .. } if tag == 63 && self.is(Altered::Item63UpTo7) => code > 7,
-            Form::Plain { last, .. } => code > last,
-            _ => false,
+            Form::Extended if self.is(Altered::HighestHeightIsOutside) => code >= last,
+            _ => code > last,
         }
     }
 }
@@ -310,14 +328,11 @@ impl<'a> Case<'a> {
 
     /// The number of the refusal of one known item: 12, 13 and 14 are asked item by item.
     fn known_item(&self, item: &Item, form: Form, second: bool) -> Option<u64> {
-        let right_length = match form.bytes() {
-            Some(bytes) => item.length == bytes,
-            None => (1..=127).contains(&item.length),
-        };
+        let right_length = self.twin.allows(form, item.length);
         let outside = right_length
             && self
                 .twin
-                .is_outside_its_codes(item.tag, form, self.code(item));
+                .is_outside_its_codes(item.tag, form, item.length, self.code(item));
         let mut judgements = [(!right_length, 12), (second, 13), (outside, 14)];
         if self.twin.is(Altered::SecondBeforeLength) {
             judgements.swap(0, 1);

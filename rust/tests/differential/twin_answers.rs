@@ -1,13 +1,17 @@
 //! The twin's word on an item, its conversions, heights, corners and listing.
 
-use crate::catalogue::{form, unit, Form, Unit, ALL, DEGREE_CELSIUS};
+use crate::catalogue::{
+    form, unit, Form, Unit, ALL, DEGREE_CELSIUS, EXTENDED_HIGH, EXTENDED_LOW, METRE,
+};
 use crate::twin::{refused, Altered, Refused, Row, Twin, CARRIED, MARK, TEXT};
 
-/// A scale: the value is `origin` + number × `range` / `steps`, exactly.
+/// A scale: the value is `origin` + number × `range` / `steps`, exactly. No code is above `last`.
 #[derive(Clone, Copy)]
 pub struct Scale {
     pub bits: u32,
     pub signed: bool,
+    pub extended: bool,
+    pub last: u64,
     pub low: i64,
     pub high: i64,
     pub origin: i128,
@@ -16,37 +20,68 @@ pub struct Scale {
 }
 
 impl Scale {
-    pub fn of(tag: u64) -> Option<Scale> {
-        match form(tag)? {
+    /// The scale of a tag; its value's length is asked at the extended heights alone.
+    pub fn of(tag: u64, length: usize) -> Option<Scale> {
+        let form = form(tag)?;
+        match form {
             Form::Unsigned { bytes, low, high } => Some(Scale {
-                bits: 8 * bytes as u32,
-                signed: false,
-                low,
-                high,
                 origin: i128::from(low),
                 range: i128::from(high - low),
                 steps: (1 << (8 * bytes)) - 1,
+                ..Scale::plain(bytes, low, high)
             }),
             Form::Signed { bytes, high } => Some(Scale {
-                bits: 8 * bytes as u32,
                 signed: true,
-                low: -high,
-                high,
-                origin: 0,
                 range: i128::from(high),
                 steps: (1 << (8 * bytes - 1)) - 1,
+                ..Scale::plain(bytes, -high, high)
             }),
             Form::Celsius => Some(Scale {
-                bits: 8,
                 signed: true,
-                low: -128 * DEGREE_CELSIUS,
-                high: 127 * DEGREE_CELSIUS,
-                origin: 0,
                 range: i128::from(DEGREE_CELSIUS),
-                steps: 1,
+                ..Scale::plain(1, -128 * DEGREE_CELSIUS, 127 * DEGREE_CELSIUS)
             }),
+            Form::Extended => form.allows(length).then(|| Scale::extended(length)),
             Form::Plain { .. } | Form::Text => None,
         }
+    }
+
+    /// Unsigned, from zero on, one a code.
+    fn plain(bytes: usize, low: i64, high: i64) -> Scale {
+        Scale {
+            bits: 8 * bytes as u32,
+            signed: false,
+            extended: false,
+            last: u64::MAX >> (64 - 8 * bytes),
+            low,
+            high,
+            origin: 0,
+            range: 1,
+            steps: 1,
+        }
+    }
+
+    /// -900 m plus the code divided by 2^(8 × length - 17) per metre; both are taken 2^17 times, so that 2 bytes need no fraction.
+    fn extended(length: usize) -> Scale {
+        let [low, high] = [EXTENDED_LOW, EXTENDED_HIGH].map(|metres| metres * METRE);
+        Scale {
+            extended: true,
+            last: Form::Extended.last(length),
+            origin: i128::from(low),
+            range: i128::from(METRE) << 17,
+            steps: 1 << (8 * length),
+            ..Scale::plain(length, low, high)
+        }
+    }
+
+    /// How many bytes its codes have.
+    pub fn length(self) -> usize {
+        self.bits as usize / 8
+    }
+
+    /// Whether a value is in the range.
+    pub fn holds(self, value: i64) -> bool {
+        (self.low..=self.high).contains(&value)
     }
 
     /// The number that a stored code is.
@@ -56,10 +91,11 @@ impl Scale {
     }
 }
 
-/// What the catalogue has for a tag: a text has no bytes of its own, and what has no scale no range.
+/// What the catalogue has for a tag: a text and an extended height have no one length, and what has no scale no range.
 #[derive(Clone, Copy, PartialEq, Eq, Debug)]
 pub struct TwinItem {
     pub signed: bool,
+    pub extended: bool,
     pub bytes: Option<usize>,
     pub range: Option<(i64, i64)>,
     pub unit: Option<Unit>,
@@ -99,34 +135,70 @@ impl Twin {
             36 | 55 if self.is(Altered::Units36And55Swapped) => 36 + 55 - tag,
             _ => tag,
         };
+        // The range of an extended height is the same for each of its lengths.
+        let scale = Scale::of(tag, 2);
         Some(TwinItem {
             signed: matches!(form, Form::Signed { .. } | Form::Celsius),
+            extended: form == Form::Extended,
             bytes: form.bytes(),
-            range: Scale::of(tag).map(|scale| (scale.low, scale.high)),
+            range: scale.map(|scale| (scale.low, scale.high)),
             unit: unit(unit_of),
             marked: self.mark(tag, form).is_some(),
         })
     }
 
-    pub fn to_house(self, tag: u64, code: u64) -> Result<i64, Refused> {
-        let form = form(tag).ok_or(refused(19, 0, tag))?;
-        let scale = Scale::of(tag).ok_or(refused(19, 0, tag))?;
-        if code >> scale.bits != 0 || self.mark(tag, form) == Some(code) {
+    /// The scale that a conversion goes by; without one it is refused by 19.
+    fn scale(self, tag: u64, length: usize) -> Result<Scale, Refused> {
+        let none = refused(19, 0, tag);
+        let form = form(tag).ok_or(none)?;
+        let is_asked = form == Form::Extended || self.is(Altered::LengthAskedOfEveryTag);
+        if is_asked && !form.allows(length) {
+            return Err(none);
+        }
+        let scale = Scale::of(tag, length).ok_or(none)?;
+        let steps = match form {
+            Form::Extended if self.is(Altered::ExtendedScaleOfThreeBytes) => 1 << 24,
+            _ => scale.steps,
+        };
+        Ok(Scale { steps, ..scale })
+    }
+
+    pub fn to_house(self, tag: u64, length: usize, code: u64) -> Result<i64, Refused> {
+        let scale = self.scale(tag, length)?;
+        let mark = form(tag).and_then(|form| self.mark(tag, form));
+        if code > self.last_code(scale) || mark == Some(code) {
             return Err(refused(20, 0, tag));
         }
         let all_ones = scale.signed && self.is(Altered::SignedDividedByAllOnes);
         let steps = scale.steps * if all_ones { 2 } else { 1 } + i128::from(all_ones);
-        let value = scale.origin + nearest(scale.number(code) * scale.range, steps);
-        Ok(value as i64)
+        let numerator = scale.number(code) * scale.range;
+        // Counted from the low end, so a tie of an extended height goes upward, also below zero.
+        let value = scale.origin + nearest(numerator, steps);
+        let is_tie = 2 * numerator.rem_euclid(steps) == steps;
+        let down = self.is(Altered::ExtendedTiesDown)
+            || (self.is(Altered::ExtendedTiesAwayFromZero) && value <= 0);
+        Ok(value as i64 - i64::from(is_tie && down))
     }
 
-    pub fn to_code(self, tag: u64, value: i64) -> Result<u64, Refused> {
-        let scale = Scale::of(tag).ok_or(refused(19, 0, tag))?;
-        if value < scale.low || value > scale.high {
+    fn last_code(self, scale: Scale) -> u64 {
+        let without = scale.extended && self.is(Altered::HighestHeightIsOutside);
+        scale.last - u64::from(without)
+    }
+
+    pub fn to_code(self, tag: u64, length: usize, value: i64) -> Result<u64, Refused> {
+        let early = self.is(Altered::RangeBeforeLength);
+        let scale = match Scale::of(tag, 2) {
+            Some(scale) if early && !scale.holds(value) => scale,
+            _ => self.scale(tag, length)?,
+        };
+        if !scale.holds(value) {
             return Err(refused(21, 0, tag));
         }
         // Measured from the low end if unsigned and from zero if signed, so a tie goes away from it.
         let numerator = (i128::from(value) - scale.origin) * scale.steps;
+        if scale.extended && !self.is(Altered::ExtendedCodeIsNearest) {
+            return Ok(numerator.div_euclid(scale.range) as u64);
+        }
         let mut number = nearest(numerator, scale.range);
         let tie = 2 * (number * scale.range - numerator).abs() == scale.range;
         if tie && self.is(Altered::TiesTowardsZero) {
@@ -136,22 +208,29 @@ impl Twin {
     }
 
     pub fn sensor_height(self, packet: &[u8], set: u128) -> Result<TwinHeight, Refused> {
-        self.height(packet, set, 75, 15)
+        let over_ellipsoid = if self.is(Altered::Item75Before104) {
+            [75, 104]
+        } else {
+            [104, 75]
+        };
+        self.height(packet, set, &over_ellipsoid, 15)
     }
 
     pub fn frame_centre_height(self, packet: &[u8], set: u128) -> Result<TwinHeight, Refused> {
-        self.height(packet, set, 78, 25)
+        self.height(packet, set, &[78], 25)
     }
 
+    /// The first of the rows over the ellipsoid that is present, else the one over mean sea level.
     fn height(
         self,
         packet: &[u8],
         set: u128,
-        over_ellipsoid: u64,
+        over_ellipsoid: &[u64],
         over_sea_level: u64,
     ) -> Result<TwinHeight, Refused> {
         let rows = self.read(packet, set, None)?;
-        let ellipsoid = self.house(&rows, over_ellipsoid);
+        let mut in_order = over_ellipsoid.iter();
+        let ellipsoid = in_order.find_map(|&tag| self.house(&rows, tag));
         let sea_level = self.house(&rows, over_sea_level);
         Ok(match (ellipsoid, sea_level) {
             (Some(_), Some(Some(height))) if self.is(Altered::SeaLevelFirst) => {
@@ -168,7 +247,7 @@ impl Twin {
         let row = rows
             .iter()
             .find(|row| row.tag == tag && row.kind != CARRIED)?;
-        Some(self.to_house(row.tag, row.code).ok())
+        Some(self.to_house(row.tag, row.length, row.code).ok())
     }
 
     pub fn corner(self, packet: &[u8], set: u128, k: u64) -> Result<TwinCorner, Refused> {
@@ -213,7 +292,7 @@ impl Twin {
         match row.kind {
             MARK => listing.push('-'),
             TEXT | CARRIED => push_hex(listing, &packet[row.place..row.place + row.length]),
-            _ => match self.to_house(row.tag, row.code) {
+            _ => match self.to_house(row.tag, row.length, row.code) {
                 Ok(value) => *listing += &value.to_string(),
                 Err(_) => *listing += &row.code.to_string(),
             },

@@ -4,12 +4,13 @@ use crate::catalogue::{form, Form};
 use crate::twin::{is_good, refused, Altered, Refused, Row, Twin, CARRIED, MARK, READING, TEXT};
 use crate::wire::MOST_ITEMS;
 
-/// A record: a row taken out singly. Only a reading has a code, only text and carried have a value.
+/// A record: a row taken out singly. Only a reading has a code and its length, only text and carried have a value.
 #[derive(Clone, Copy, Debug)]
 pub struct Record<'a> {
     pub tag: u64,
     pub kind: u64,
     pub code: u64,
+    pub length: usize,
     pub value: &'a [u8],
 }
 
@@ -55,6 +56,7 @@ impl Twin {
         match record.kind {
             READING => Row {
                 code: record.code,
+                length: record.length,
                 ..row
             },
             MARK => self.marked(row),

@@ -127,9 +127,16 @@ impl Twin {
         let code_is_asked = row.tag != 1 || self.is(Altered::ChecksumRowsCodeAsked);
         let too_wide = code_is_asked && row.length < 8 && row.code >> (8 * row.length) != 0;
         let is_mark = self.mark(row.tag, form) == Some(row.code);
-        form.bytes() == Some(row.length)
+        self.allows(form, row.length)
             && !too_wide
+            && !self.is_bad_height(row, form)
             && row.kind == if is_mark { MARK } else { READING }
+    }
+
+    /// A height beyond 40,000 m makes no row bad: 14 is given for it later.
+    fn is_bad_height(self, row: &Row, form: Form) -> bool {
+        let told = self.is(Altered::HeightBeyondIsABadRow) && form == Form::Extended;
+        told && row.code > form.last(row.length)
     }
 
     fn too_long(self, rows: &[Row]) -> Option<Refused> {
@@ -164,8 +171,9 @@ impl Twin {
         let row = &rows[n];
         let form = self.known_form(set, row.tag)?;
         // The writer works the checksum out afresh, so the code of its row is outside no codes.
-        let outside = row.tag != 1 && self.is_outside_its_codes(row.tag, form, row.code);
-        let wrong_length = form == Form::Text && !(1..=127).contains(&row.length);
+        let outside =
+            row.tag != 1 && self.is_outside_its_codes(row.tag, form, row.length, row.code);
+        let wrong_length = !self.allows(form, row.length);
         let second = rows[..n].iter().any(|earlier| earlier.tag == row.tag);
         let judgements = [(wrong_length, 12), (second, 13), (outside, 14)];
         let (_, number) = judgements.into_iter().find(|&(given, _)| given)?;

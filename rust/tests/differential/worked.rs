@@ -1,52 +1,75 @@
-//! Document 01's worked values: product and twin both answer them.
+//! The documents' worked values: product and twin both answer them.
 
 use oysterknoll::LONGEST_LISTING;
 
 use crate::bench::must_hold;
-use crate::catalogue::{ALL, SMALLEST};
+use crate::catalogue::{form, Form, ALL, SMALLEST};
 use crate::compare::{Comparer, LAST_REFUSAL};
-use crate::conversions::scaled;
+use crate::conversions::{scaled, Told};
 use crate::make::repair_checksum;
 use crate::twin::{Twin, CARRIED, MARK, READING, TEXT};
 use crate::twin_records::Record;
 use crate::twin_write::Rows;
 use crate::wire::{length_at, put_length, put_tag, tag_at, KEY, MOST_BYTES};
 
-const TO_HOUSE: [(u64, u64, i64); 12] = [
-    (18, 0x724A_0A20, 1_607_192_114),
-    (19, 0x87F8_4B86, -1_687_923_248),
-    (21, 0x0383_0926, 68_590_983),
-    (67, 0x85A1_5A39, -860_412_073),
-    (64, 0xDDC5, 3_118_681_621),
-    (26, 0x8001, -750_000),
-    (26, 0x7FFF, 750_000),
-    (26, 0x0001, 23),
-    (39, 0x80, -128_000),
-    (15, 0x0000, -900_000),
-    (15, 0xFFFF, 19_000_000),
-    (57, 0xFFFF_FFFF, 5_000_000_000),
+/// Tag, length, code and value.
+const TO_HOUSE: [(u64, usize, u64, i64); 24] = [
+    (18, 4, 0x724A_0A20, 1_607_192_114),
+    (19, 4, 0x87F8_4B86, -1_687_923_248),
+    (21, 4, 0x0383_0926, 68_590_983),
+    (67, 4, 0x85A1_5A39, -860_412_073),
+    (64, 2, 0xDDC5, 3_118_681_621),
+    (26, 2, 0x8001, -750_000),
+    (26, 2, 0x7FFF, 750_000),
+    (26, 2, 0x0001, 23),
+    (39, 1, 0x80, -128_000),
+    (15, 2, 0x0000, -900_000),
+    (15, 2, 0xFFFF, 19_000_000),
+    (57, 4, 0xFFFF_FFFF, 5_000_000_000),
+    (103, 3, 0x2F_921E, 23_456_234),
+    (104, 3, 0x2F_921E, 23_456_234),
+    (105, 3, 0x2F_921E, 23_456_234),
+    (104, 2, 0, -900_000),
+    (104, 2, 1, -898_000),
+    (104, 2, 0x4FE2, 40_000_000),
+    (104, 3, 0x4F_E200, 40_000_000),
+    (104, 4, 0x4FE2_0000, 40_000_000),
+    // Ties go upward, below zero too: -899,937.5 and -899,812.5 mm, and 62.5 mm.
+    (104, 3, 8, -899_937),
+    (104, 3, 24, -899_812),
+    (104, 4, 2_048, -899_937),
+    (104, 3, 115_208, 63),
 ];
 
-const TO_CODE: [(u64, i64, u64); 5] = [
-    (36, 10_000, 26),
-    (36, 9_999, 25),
-    (26, -375_000, 0xC000),
-    (39, -127_500, 0x80),
-    (39, -128_000, 0x80),
+/// Tag, length, value and code.
+const TO_CODE: [(u64, usize, i64, u64); 12] = [
+    (36, 1, 10_000, 26),
+    (36, 1, 9_999, 25),
+    (26, 2, -375_000, 0xC000),
+    (39, 1, -127_500, 0x80),
+    (39, 1, -128_000, 0x80),
+    // The code at or below.
+    (104, 3, 23_456_240, 0x2F_921E),
+    (104, 3, 23_456_234, 0x2F_921D),
+    (104, 2, -898_001, 0),
+    (104, 2, -898_000, 1),
+    (104, 2, 39_999_999, 0x4FE1),
+    (104, 3, 40_000_000, 0x4F_E200),
+    (104, 4, -899_999, 32),
 ];
 
 #[test]
 fn worked_conversions() {
     let mut comparer = Comparer::new(Twin::TRUE);
-    for (tag, code, value) in TO_HOUSE {
-        must_hold(comparer.house_of(tag, code));
-        assert_eq!(oysterknoll::to_house(tag, code), Ok(value));
+    for (tag, length, code, value) in TO_HOUSE {
+        must_hold(comparer.house_of(tag, length, code));
+        assert_eq!(oysterknoll::to_house(tag, length, code), Ok(value));
     }
-    for (tag, value, code) in TO_CODE {
-        must_hold(comparer.code_of(tag, value));
-        assert_eq!(oysterknoll::to_code(tag, value), Ok(code));
+    for (tag, length, value, code) in TO_CODE {
+        must_hold(comparer.code_of(tag, length, value));
+        assert_eq!(oysterknoll::to_code(tag, length, value), Ok(code));
     }
-    must_hold(comparer.house_of(26, 0x8000));
+    must_hold(comparer.house_of(26, 2, 0x8000));
     assert_eq!(comparer.tally.refusals[20], 1);
 }
 
@@ -60,10 +83,10 @@ fn worked_lengths_and_tags() {
     assert_eq!(tag_at(&[0x80, 0x05]), None);
 }
 
-type Items = Vec<(u64, Vec<u8>)>;
+pub type Items = Vec<(u64, Vec<u8>)>;
 
 /// A packet of these items and the checksum.
-fn packet_of(items: &Items) -> Vec<u8> {
+pub fn packet_of(items: &Items) -> Vec<u8> {
     let mut body = Vec::new();
     for (tag, value) in items {
         put_tag(&mut body, *tag);
@@ -79,7 +102,7 @@ fn packet_of(items: &Items) -> Vec<u8> {
 }
 
 /// The items of the worked packet but for its checksum.
-fn worked_items() -> Items {
+pub fn worked_items() -> Items {
     vec![(2, vec![0, 0, 0, 0, 0, 0, 0, 1]), (65, vec![17])]
 }
 
@@ -172,7 +195,16 @@ fn number(tag: u64, kind: u64, code: u64) -> Record<'static> {
         tag,
         kind,
         code,
+        length: form(tag).and_then(Form::bytes).unwrap_or(0),
         value: &[],
+    }
+}
+
+/// A reading of so many bytes.
+fn reading_of(length: usize, tag: u64, code: u64) -> Record<'static> {
+    Record {
+        length,
+        ..number(tag, READING, code)
     }
 }
 
@@ -214,6 +246,12 @@ fn worked_records() {
         (number(26, READING, 0x8000), 1, 17),
         (number(39, MARK, 0), 1, 17),
         (number(39, READING, 0x80), 1, 0),
+        (reading_of(2, 39, 0x80), 1, 17),
+        (reading_of(3, 104, 0x4F_E200), 1, 0),
+        (reading_of(3, 104, 0x4F_E201), 1, 14),
+        (reading_of(3, 104, 0x100_0000), 1, 17),
+        (reading_of(5, 104, 0), 1, 17),
+        (number(104, MARK, 0), 1, 17),
     ];
     for (other, times, refusal) in cases {
         let records = worked_records_with(other, times);
@@ -232,11 +270,13 @@ fn items_of_the_longest_listing() -> Items {
         (100, vec![0xAB; long]),
         (65, vec![0xFF]),
     ];
-    for (tag, scale) in scaled(32) {
+    // An extended height lists the same at its end whatever its length: the shortest leaves the most room.
+    let longest = scaled(32).filter(|told| !told.scale.extended || told.length == 2);
+    for Told { tag, length, scale } in longest {
         let end = if scale.signed { scale.low } else { scale.high };
-        let code = Twin::TRUE.to_code(tag, end).expect("an end has a code");
-        let bytes = scale.bits as usize / 8;
-        items.push((tag, code.to_be_bytes()[8 - bytes..].to_vec()));
+        let code = Twin::TRUE.to_code(tag, length, end);
+        let bytes = code.expect("an end has a code").to_be_bytes();
+        items.push((tag, bytes[8 - length..].to_vec()));
     }
     items.resize(127, (100, Vec::new()));
     let room = MOST_BYTES - packet_of(&items).len();
@@ -252,6 +292,6 @@ fn longest_listing() {
     must_hold(comparer.list(&packet, |needed| needed));
     must_hold(comparer.list(&packet, |needed| needed - 1));
     let length = Twin::TRUE.listing(&packet).map(|listing| listing.len());
-    assert_eq!(length, Ok(18_220));
-    const { assert!(LONGEST_LISTING >= 18_220) };
+    assert_eq!(length, Ok(18_229));
+    const { assert!(LONGEST_LISTING >= 18_229) };
 }

@@ -75,7 +75,8 @@ fn header_scales() -> Scales {
     let lines = HEADER
         .lines()
         .filter_map(|line| line.strip_prefix(" *     ")?.split_once("  "));
-    let scales = lines.filter(|(_, scale)| scale.contains("signed "));
+    let is_scale = |scale: &str| scale.contains("signed ") || scale.starts_with("extended ");
+    let scales = lines.filter(|(_, scale)| is_scale(scale.trim_start()));
     let items = scales.flat_map(|(tags, scale)| {
         let words = scale.split_whitespace().collect::<Vec<_>>().join(" ");
         parts(tags, ',').map(move |tag| (number(&tag), words.clone()))
@@ -89,6 +90,7 @@ fn scale(item: catalogue::Item) -> Option<String> {
     let stored = match item.stored {
         Stored::Unsigned { width } => format!("unsigned {width}"),
         Stored::Signed { width } => format!("signed {width}"),
+        Stored::Extended => "extended 2 to 4".to_string(),
         Stored::Text => return None,
     };
     let (whole, unit) = match item.unit? {
@@ -108,12 +110,12 @@ fn scale(item: catalogue::Item) -> Option<String> {
 fn items_agree() {
     assert_eq!(header_items(), crate_items());
     assert_eq!(header_items(), named_items());
-    assert_eq!(header_items().len(), 64);
+    assert_eq!(header_items().len(), 67);
 }
 
 #[test]
 fn scales_agree() {
     let scaled = catalogue::all().filter_map(|item| Some((item.tag, scale(item)?)));
     assert_eq!(header_scales(), scaled.collect());
-    assert_eq!(header_scales().len(), 52);
+    assert_eq!(header_scales().len(), 55);
 }

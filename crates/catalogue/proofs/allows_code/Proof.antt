@@ -1,21 +1,50 @@
 -- `catalogue::allows_code` meets its contract.
 -- Assumes nothing.
-use Rattle.base.proofs.Cases.{cases}
+use native.Mathlib.Omega.{arith}
+use mathlib.Core.Path.{sym, _∙_}
+use borrow.Author.Tests.{ne-eqb, lt-leb}
+use Rattle.catalogue.specs.Extended.{isExtended}
 use Rattle.catalogue.specs.Shapes.{codeAllowed}
+use borrow.Author.Needs.{needs}
 use Rattle.catalogue.proofs.allows_code.Statement.{statement}
 use Rattle.catalogue.proofs.allows_code.Tie as tie
 
+is-extended-requires : tie.Need-is-extended-requires
+is-extended-requires c κs = search needs
+
+is-in-reach-requires : tie.Need-is-in-reach-requires
+is-in-reach-requires c κs = search needs
+
 returns : tie.Need-returns
 unfolding codeAllowed
-returns c = search cases
+returns c =
+    let x = c .before .before in
+    let above = x .before .if1 .taken in
+    let t = x .before .before .args .tag in
+    rw (ne-eqb t 34 (λ z. omega arith), ne-eqb t 63 (λ z. omega arith), sym (x .is-extended .ensures) ∙ c .before .if2 .taken) (c .is-in-reach .ensures)
 
 returns-2 : tie.Need-returns-2
 unfolding codeAllowed
-returns-2 c = search cases
+returns-2 c =
+    let x = c .before in
+    let above = x .before .if1 .taken in
+    let t = x .before .before .args .tag in
+    rw (ne-eqb t 34 (λ z. omega arith), ne-eqb t 63 (λ z. omega arith), sym (x .is-extended .ensures) ∙ c .if2 .left)
 
 returns-3 : tie.Need-returns-3
 unfolding codeAllowed
-returns-3 c = search cases
+returns-3 c = rw (c .match .keys1)
+
+returns-4 : tie.Need-returns-4
+unfolding codeAllowed
+returns-4 c = rw (c .match .keys2)
+
+returns-5 : tie.Need-returns-5
+unfolding codeAllowed isExtended
+returns-5 c =
+    let t = c .before .before .args .tag in
+    rw (ne-eqb t 34 (c .match .rest .0 .1), ne-eqb t 63 (c .match .rest .1), lt-leb 103 t (omega (arith, c .before .if1 .left)))
 
 pub allows-code-spec : {M : Type 1} → statement M
-allows-code-spec = tie.close (tie.spec returns returns-2 returns-3)
+allows-code-spec =
+    tie.close (tie.spec is-extended-requires is-in-reach-requires returns returns-2 returns-3 returns-4 returns-5)

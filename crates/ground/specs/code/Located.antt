@@ -1,5 +1,5 @@
 -- The shadow of the code, not to be believed but proved to be what document 01's definitions give: the values of an accepted packet,
--- by the places at which they end.
+-- by the places at which they are found.
 use Prim.Native.Nat.{ℕ}
 use mathlib.Core.Path.{_≡_}
 use mathlib.Core.Bool.{true, cond}
@@ -13,23 +13,23 @@ use Rattle.catalogue.specs.declared.Item.{Item}
 use Rattle.catalogue.specs.declared.Found.the-variants.{Known}
 use Rattle.rows.specs.declared.RowWords.{RowWords}
 use Rattle.packet.specs.Pieces as pieces
-use Rattle.packet.specs.Verdict.{received, pastFrom, noPast}
+use Rattle.packet.specs.Verdict.{received, placesFrom, noPlaces}
 use Rattle.packet.specs.Rows.{rowsOf}
 use Rattle.scale.specs.Scales.{scaled}
 
--- an accepted packet, and for each tag the place past its item
-pub record Placed (K : TagSet) (p past : List ℕ) : Type 0 where
+-- an accepted packet, and for each tag where its value is found
+pub record Placed (K : TagSet) (p found : List ℕ) : Type 0 where
   pub items : List pieces.Item
   pub accepted : received K p ≡ given items
-  pub places : past ≡ pastFrom noPast items
+  pub places : found ≡ placesFrom noPlaces items
 
 -- its rows
 abbrev pub rowsHeld : TagSet → List ℕ → List RowWords
 rowsHeld K p = orElse [] (rowsOf (holds K)) (received K p)
 
--- where the value of a known tag ends, 0 where there is none
-abbrev pub endIn : TagSet → List ℕ → ℕ → ℕ
-endIn K past t = cond (holds K t) (getD past t 0) 0
+-- where the value of a known tag is found, 0 where there is none
+abbrev pub placeIn : TagSet → List ℕ → ℕ → ℕ
+placeIn K places t = cond (holds K t) (getD places t 0) 0
 
 -- the item of a tag in a group of items that are stored alike
 abbrev pub itemWith : ℕ → Group → Item

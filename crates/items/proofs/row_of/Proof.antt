@@ -29,7 +29,7 @@ tags =
     ∷ 17 ∷ 18 ∷ 19 ∷ 20 ∷ 21 ∷ 22 ∷ 23 ∷ 24 ∷ 25 ∷ 26 ∷ 27 ∷ 28 ∷ 29 ∷ 30 ∷ 31 ∷ 32
     ∷ 33 ∷ 34 ∷ 35 ∷ 36 ∷ 37 ∷ 38 ∷ 39 ∷ 55 ∷ 56 ∷ 57 ∷ 59 ∷ 63 ∷ 64 ∷ 65 ∷ 67 ∷ 68
     ∷ 70 ∷ 71 ∷ 75 ∷ 78 ∷ 79 ∷ 80 ∷ 82 ∷ 83 ∷ 84 ∷ 85 ∷ 86 ∷ 87 ∷ 88 ∷ 89 ∷ 90 ∷ 91
-    ∷ []
+    ∷ 103 ∷ 104 ∷ 105 ∷ []
 
 abbrev tagAt : ℕ → ℕ
 tagAt k = getD tags k 0
@@ -37,21 +37,21 @@ tagAt k = getD tags k 0
 inOrder : ℕ → Bool
 inOrder k = eqb (countBelow allTags (tagAt k)) k
 
-all-in-order : allBelow inOrder 64 ≡ true
+all-in-order : allBelow inOrder 67 ≡ true
 unfolding inOrder holds countBelow allTags groups member itemIn itemOf rowsFrom rows
 all-in-order = refl
 
-in-order : (k : ℕ) → k < 64 → countBelow allTags (tagAt k) ≡ k
+in-order : (k : ℕ) → k < 67 → countBelow allTags (tagAt k) ≡ k
 unfolding inOrder
-in-order k h = eqb-true _ _ (all-below inOrder 64 all-in-order k h)
+in-order k h = eqb-true _ _ (all-below inOrder 67 all-in-order k h)
 
 -- an arm reads the row of its tag
-arm : (l : List Entry) (t k : ℕ) → l ≡ rows → k < 64 → t ≡ tagAt k → getD l k (0, 0, false, pos 0, pos 0) ≡ entryAt (countBelow allTags t)
+arm : (l : List Entry) (t k : ℕ) → l ≡ rows → k < 67 → t ≡ tagAt k → getD l k (0, 0, false, pos 0, pos 0) ≡ entryAt (countBelow allTags t)
 arm l t k e h p = rw (e, p, in-order k h)
 
 -- a tag of the table is that of its place
 found : ℕ → Bool
-found t = cond (holds allTags t) (ltb (countBelow allTags t) 64 && eqb t (tagAt (countBelow allTags t))) true
+found t = cond (holds allTags t) (ltb (countBelow allTags t) 67 && eqb t (tagAt (countBelow allTags t))) true
 
 all-found : allBelow found 128 ≡ true
 unfolding found holds countBelow allTags groups member itemIn itemOf rowsFrom rows
@@ -59,7 +59,7 @@ all-found = refl
 
 record At (t : ℕ) : Type 0 where
   place : ℕ
-  inside : place < 64
+  inside : place < 67
   same : t ≡ tagAt place
 
 at : (t : ℕ) → holds allTags t ≡ true → At t
@@ -71,8 +71,8 @@ at t e =
     let p = rw e at (all-below found 128 all-found t h) in
     record {
       place = k;
-      inside = ltb-true k 64 (both-left (ltb k 64) _ p);
-      same = eqb-true t (tagAt k) (both-right (ltb k 64) _ p);
+      inside = ltb-true k 67 (both-left (ltb k 67) _ p);
+      same = eqb-true t (tagAt k) (both-right (ltb k 67) _ p);
     })
     (λ h. clash (sym e ∙ holds-none allTags all-words t h))
 
@@ -88,21 +88,24 @@ past t (suc k) i p e =
     let d : i ≡ k → ⊥ = λ q. p .1 (e ∙ ap tagAt q) in
     omega (arith, h, d)
 
-top : (k : ℕ) → 63 ≤ k → k < 64 → k ≡ 63
+top : (k : ℕ) → 66 ≤ k → k < 67 → k ≡ 66
 top k h p = omega arith
 
-last : tie.Need-returns-64
+last : tie.Need-returns-67
 last c =
     let t = c .before .before .before .args .tag in
     let a = at t (c .before .before .before .pre) in
-    let h = past t 63 (a .place) (c .before .match .rest) (a .same) in
-    arm _ t 63 (c .before .before .table .ensures) (omega arith) (a .same ∙ ap tagAt (top (a .place) h (a .inside)))
+    let h = past t 66 (a .place) (c .before .match .rest) (a .same) in
+    arm _ t 66 (c .before .before .table .ensures) (omega arith) (a .same ∙ ap tagAt (top (a .place) h (a .inside)))
 
 pub row-of-spec : {M : Type 1} → statement M
 row-of-spec =
     tie.close
     (tie.spec
     (λ c κs. search needs)
+    (λ c. search needs)
+    (λ c. search needs)
+    (λ c. search needs)
     (λ c. search needs)
     (λ c. search needs)
     (λ c. search needs)
@@ -230,4 +233,7 @@ row-of-spec =
     (λ c. arm _ _ 60 (c .before .before .table .ensures) (lit< tt) (c .before .match .keys61))
     (λ c. arm _ _ 61 (c .before .before .table .ensures) (lit< tt) (c .before .match .keys62))
     (λ c. arm _ _ 62 (c .before .before .table .ensures) (lit< tt) (c .before .match .keys63))
+    (λ c. arm _ _ 63 (c .before .before .table .ensures) (lit< tt) (c .before .match .keys64))
+    (λ c. arm _ _ 64 (c .before .before .table .ensures) (lit< tt) (c .before .match .keys65))
+    (λ c. arm _ _ 65 (c .before .before .table .ensures) (lit< tt) (c .before .match .keys66))
     last)

@@ -4,6 +4,7 @@ use Prim.Native.Nat.{_+_}
 use mathlib.Core.Path.{ap, _∙_}
 use native.Mathlib.Omega.{arith}
 use borrow.Author.Needs.{needs}
+use Rattle.rows.specs.Taken.{partLength}
 use Rattle.listing.proofs.Sizes.{number-few}
 use Rattle.listing.proofs.Texts.{number-length, mark-length, text-length, carried-length}
 use Rattle.listing.proofs.content_size.Statement.{statement}
@@ -13,7 +14,9 @@ number-size-requires : tie.Need-number-size-requires
 number-size-requires c κs = search needs
 
 add-result : tie.Need-add-result
-add-result c = let r = c .before .before .before .before .before .args .row in omega (arith, number-few (r .tag) (r .code) (c .number-size .ensures))
+add-result c =
+    let r = c .before .before .before .before .before .args .row in
+    omega (arith, number-few (r .tag) (partLength (r .part)) (r .code) (c .number-size .ensures))
 
 returns : tie.Need-returns
 returns c = ap (λ k. 7 + k) (c .number-size .ensures) ∙ number-length _ _ (c .before .if1 .taken)

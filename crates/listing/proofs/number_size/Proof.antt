@@ -28,10 +28,10 @@ returns : tie.Need-returns
 returns c =
     let s = c .before .before .before in
     let fits : SFits w64 (s .house .given .0 .0 .value) = search needs in
-    c .whole-size .ensures ∙ ap length (whole-said _ _ (s .before .before .to-house .ensures) fits (s .house .given .1))
+    c .whole-size .ensures ∙ ap length (whole-said _ _ _ (s .before .before .to-house .ensures) fits (s .house .given .1))
 
 returns-2 : tie.Need-returns-2
-returns-2 c = c .decimal-size .ensures ∙ ap length (number-said _ _ (c .before .before .before .to-house .ensures) (c .before .enum-told .given .1))
+returns-2 c = c .decimal-size .ensures ∙ ap length (number-said _ _ _ (c .before .before .before .to-house .ensures) (c .before .enum-told .given .1))
 
 pub number-size-spec : {M : Type 1} → statement M
 number-size-spec =

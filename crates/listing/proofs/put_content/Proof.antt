@@ -19,8 +19,8 @@ put-word-requires c κs =
 put-number-requires : tie.Need-put-number-requires
 unfolding numberWord
 put-number-requires c κs =
-    let s = c .before .before .before .before .before .before in
-    room-after (c .before .before .before .put-word .ensures) (room-of (number-content _ _ (s .if1 .taken)) (s .before .before .before .before .pre .1))
+    let s = c .before .before .before .before .before .before .before in
+    room-after (c .before .before .before .before .put-word .ensures) (room-of (number-content _ _ (s .if1 .taken)) (s .before .before .before .before .pre .1))
 
 same-length : tie.Need-same-length
 same-length c = search needs
@@ -28,8 +28,8 @@ same-length c = search needs
 returns : tie.Need-returns
 unfolding numberWord
 returns c =
-    let text = number-content _ _ (c .before .before .before .before .before .before .before .before .before .if1 .taken) in
-    wrote-as text (wrote-then (c .before .before .before .before .before .before .put-word .ensures) (c .before .before .put-number .ensures))
+    let text = number-content _ _ (c .before .before .before .before .before .before .before .before .before .before .if1 .taken) in
+    wrote-as text (wrote-then (c .before .before .before .before .before .before .before .put-word .ensures) (c .before .before .put-number .ensures))
 
 slice-aggregate-put-word-2 : tie.Need-slice-aggregate-put-word-2
 slice-aggregate-put-word-2 c = search needs

@@ -22,7 +22,7 @@ add-result : tie.Need-add-result
 add-result c =
     let s = c .before .before .before .before .before .before in
     let fits : SFits w64 (s .house .given .0 .0 .value) = search needs in
-    let text = whole-said _ _ (s .before .before .to-house .ensures) fits (s .house .given .1) in
+    let text = whole-said _ _ _ (s .before .before .to-house .ensures) fits (s .house .given .1) in
     let start = s .before .before .before .before in
     omega (arith, puts-as text (start .pre) (c .before .before .put-whole .ensures) .inside, start .good)
 
@@ -32,7 +32,7 @@ enum-told c = search needs
 put-decimal-requires : tie.Need-put-decimal-requires
 put-decimal-requires c κs =
     let s = c .before .before .before in
-    room-of (number-said _ _ (s .to-house .ensures) (c .before .enum-told .given .1)) (s .before .before .pre)
+    room-of (number-said _ _ _ (s .to-house .ensures) (c .before .enum-told .given .1)) (s .before .before .pre)
 
 same-length : tie.Need-same-length
 same-length c = search needs
@@ -41,7 +41,7 @@ returns : tie.Need-returns
 returns c =
     let s = c .before .before .before .before .before .before in
     let fits : SFits w64 (s .house .given .0 .0 .value) = search needs in
-    let text = whole-said _ _ (s .before .before .to-house .ensures) fits (s .house .given .1) in
+    let text = whole-said _ _ _ (s .before .before .to-house .ensures) fits (s .house .given .1) in
     puts-as text (s .before .before .before .before .pre) (c .before .before .put-whole .ensures)
 
 same-length-2 : tie.Need-same-length-2
@@ -50,7 +50,7 @@ same-length-2 c = search needs
 returns-2 : tie.Need-returns-2
 returns-2 c =
     let s = c .before .before .before .before in
-    wrote-as (number-said _ _ (s .before .before .to-house .ensures) (s .enum-told .given .1)) (c .before .before .put-decimal .ensures)
+    wrote-as (number-said _ _ _ (s .before .before .to-house .ensures) (s .enum-told .given .1)) (c .before .before .put-decimal .ensures)
 
 pub put-number-spec : {M : Type 1} → statement M
 put-number-spec =

@@ -1,20 +1,31 @@
 -- `outgoing::plain_size` meets its contract.
 -- Assumes nothing.
+use Prim.Native.Nat.{ℕ}
 use borrow.Author.Needs.{needs}
 use native.Mathlib.Omega.{arith}
-use mathlib.Core.Path.{_≡_, sym, ap, _∙_}
+use mathlib.Core.Path.{_≡_, refl, sym, ap, _∙_}
 use Rattle.catalogue.specs.Shapes.{shapeOf}
 use Rattle.catalogue.specs.code.Column.{shapeIn}
+use Rattle.catalogue.specs.declared.Shape.{Shape}
 use Rattle.catalogue.proofs.Columns.{shape-in-column}
+use Rattle.outgoing.specs.code.Glance.{PlainAs, Plain}
 use Rattle.outgoing.proofs.Glanced.{known-plain, carried-plain}
 use Rattle.outgoing.proofs.plain_size.Statement.{statement}
 use Rattle.outgoing.proofs.plain_size.Tie as tie
 
--- the shape by the column
-shaped : (c : tie.After-shape-at) → c .shape-at .result ≡ shapeOf (c .before .before .before .before .before .args .row .tag)
-shaped c =
-    let s = c .before .before .before .before .before in
-    c .shape-at .ensures ∙ (ap (λ l. shapeIn l (s .args .row .tag)) (s .pre) ∙ shape-in-column (s .args .row .tag))
+abbrev start : tie.Else2 → tie.Start
+start c = c .before .before .before .before
+
+by-column : (c : tie.Else2) → shapeIn (start c .args .column .now) (start c .args .row .tag) ≡ shapeOf (start c .args .row .tag)
+by-column c = let s = start c in ap (λ l. shapeIn l (s .args .row .tag)) (s .pre) ∙ shape-in-column (s .args .row .tag)
+
+-- a row of a known tag that was not seen, by its shape
+plainly : (c : tie.Else2) (shape : Shape) (r : ℕ) → shape ≡ shapeOf (start c .args .row .tag)
+    → PlainAs shape (start c .args .room) (start c .args .row) r
+    → Plain (start c .args .known) (start c .args .seen) (start c .args .room) (start c .args .row) r
+plainly c shape r e p =
+    known-plain _ _ _ _ _ e
+    (sym (c .before .before .before .has .ensures) ∙ c .before .before .if1 .taken) (sym (c .before .has2 .ensures) ∙ c .if2 .left) p
 
 has-requires : tie.Need-has-requires
 has-requires c κs = search needs
@@ -25,11 +36,20 @@ has-requires-2 c κs = search needs
 returns : tie.Need-returns
 returns c h = absurd (omega arith)
 
+is-extended-requires : tie.Need-is-extended-requires
+is-extended-requires c κs = search needs
+
+height-size-requires : tie.Need-height-size-requires
+height-size-requires c κs = sym (c .before .is-extended .ensures) ∙ c .if3 .taken
+
+returns-2 : tie.Need-returns-2
+returns-2 c h = plainly (c .before .before .before) _ _ refl (c .height-size .ensures _ h)
+
 shape-at-requires : tie.Need-shape-at-requires
 shape-at-requires c κs = search needs
 
-enum-known-width : tie.Need-enum-known-width
-enum-known-width c = search needs
+enum-known-least : tie.Need-enum-known-least
+enum-known-least c = search needs
 
 known-size-requires : tie.Need-known-size-requires
 known-size-requires c κs = search needs
@@ -43,22 +63,22 @@ known-size-requires-2 c κs = search needs
 enum-told-2 : tie.Need-enum-told-2
 enum-told-2 c = search needs
 
-returns-2 : tie.Need-returns-2
-returns-2 c h =
-    let found = c .before .before .before .before in
-    let first = found .before .before in
-    known-plain _ _ _ _ _ (sym (c .before .before .width .given .1) ∙ shaped found) (sym (first .before .before .has .ensures) ∙ first .before .if1 .taken)
-    (sym (first .has2 .ensures) ∙ found .before .if2 .left) (c .known-size .ensures h)
-
 returns-3 : tie.Need-returns-3
 returns-3 c h =
-    let found = c .before .before .before in
-    let first = found .before .before in
-    known-plain _ _ _ _ _ (sym (c .before .enum-told .given .1) ∙ shaped found) (sym (first .before .before .has .ensures) ∙ first .before .if1 .taken)
-    (sym (first .has2 .ensures) ∙ found .before .if2 .left) (c .known-size2 .ensures h)
+    let found = c .before .before .before .before in
+    plainly (found .before .before .before) _ _
+    (sym (c .before .before .least .given .1) ∙ (found .shape-at .ensures ∙ by-column (found .before .before .before)))
+    (c .known-size .ensures h)
 
 returns-4 : tie.Need-returns-4
-returns-4 c h = absurd (omega arith)
+returns-4 c h =
+    let found = c .before .before .before in
+    plainly (found .before .before .before) _ _
+    (sym (c .before .enum-told .given .1) ∙ (found .shape-at .ensures ∙ by-column (found .before .before .before)))
+    (c .known-size2 .ensures h)
+
+returns-5 : tie.Need-returns-5
+returns-5 c h = absurd (omega arith)
 
 is-good-row-requires : tie.Need-is-good-row-requires
 is-good-row-requires c κs = search needs
@@ -66,14 +86,14 @@ is-good-row-requires c κs = search needs
 row-size-requires : tie.Need-row-size-requires
 row-size-requires c κs = search needs
 
-returns-5 : tie.Need-returns-5
-returns-5 c h =
+returns-6 : tie.Need-returns-6
+returns-6 c h =
     let good = c .before .before in
-    carried-plain _ _ _ _ (sym (good .before .before .has .ensures) ∙ good .before .if1 .left) (sym (good .is-good-row .ensures) ∙ c .before .if3 .taken)
+    carried-plain _ _ _ _ (sym (good .before .before .has .ensures) ∙ good .before .if1 .left) (sym (good .is-good-row .ensures) ∙ c .before .if4 .taken)
     (c .row-size .ensures)
 
-returns-6 : tie.Need-returns-6
-returns-6 c h = absurd (omega arith)
+returns-7 : tie.Need-returns-7
+returns-7 c h = absurd (omega arith)
 
 pub plain-size-spec : {M : Type 1} → statement M
 plain-size-spec =
@@ -82,16 +102,19 @@ plain-size-spec =
     has-requires
     has-requires-2
     returns
+    is-extended-requires
+    height-size-requires
+    returns-2
     shape-at-requires
-    enum-known-width
+    enum-known-least
     known-size-requires
     enum-told
     known-size-requires-2
     enum-told-2
-    returns-2
     returns-3
     returns-4
+    returns-5
     is-good-row-requires
     row-size-requires
-    returns-5
-    returns-6)
+    returns-6
+    returns-7)

@@ -28,14 +28,14 @@ returns : tie.Need-returns
 returns c =
     let a = c .before .before .before .before in
     let fits : SFits w64 (a .before .args .value) = search needs in
-    let same = ap (toCode (a .before .args .tag)) (toZ-ofZ fits) in
+    let same = ap (toCode (a .before .args .tag) (a .before .args .length)) (toZ-ofZ fits) in
     ap (λ x. coding x 0) (c .refused .ensures) ∙ said codeAnswer codeSaid (c .before .before .cause .given .1) (a .to-code .ensures ∙ same)
 
 returns-2 : tie.Need-returns-2
 returns-2 c =
     let a = c .before .before .before in
     let fits : SFits w64 (a .before .args .value) = search needs in
-    said codeAnswer codeSaid (c .before .code .given .1) (a .to-code .ensures ∙ ap (toCode (a .before .args .tag)) (toZ-ofZ fits))
+    said codeAnswer codeSaid (c .before .code .given .1) (a .to-code .ensures ∙ ap (toCode (a .before .args .tag) (a .before .args .length)) (toZ-ofZ fits))
 
 pub oyk-to-code-spec : {M : Type 1} → statement M
 oyk-to-code-spec = tie.close (tie.spec to-code-requires enum-known-cause refused-requires enum-known-code returns returns-2)

@@ -6,7 +6,7 @@ use Rattle.refusal.proofs.Answers.{not-given}
 use Rattle.number.specs.Stored.{Bytes}
 use Rattle.tagset.proofs.Laws.{Words}
 use Rattle.packet.specs.Said.{rightSaid}
-use Rattle.packet.proofs.Concluding.{passes-whole, passes-refused, right-refused, right-given, past-items}
+use Rattle.packet.proofs.Concluding.{passes-whole, passes-refused, right-refused, right-given, places-items}
 use borrow.Author.Needs.{needs}
 use Rattle.packet.proofs.check_from.Statement.{statement}
 use Rattle.packet.proofs.check_from.Tie as tie
@@ -64,7 +64,7 @@ returns-3 c =
     let w = passes-whole _ _ _ _ (p .before .before .before .before .pre) _ _ _ (p .pass .ensures) (c .before .before .before .before .if1 .left) in
     record {
       says = sym (right-given _ (words p) _ (bytes p) _ _ _ _ w (sym (c .before .before .concluded .ensures) ∙ ap rightSaid (c .enum-told .given .1)));
-      places = λ a f. past-items _ (words p) _ (bytes p) _ _ _ _ w;
+      places = λ a f. places-items _ (words p) _ (bytes p) _ _ _ _ w;
     }
 
 pub check-from-spec : {M : Type 1} → statement M

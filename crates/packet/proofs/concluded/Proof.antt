@@ -6,7 +6,7 @@ use Rattle.number.specs.Stored.{Bytes}
 use Rattle.tagset.proofs.Laws.{Words}
 use Rattle.packet.specs.Said.{rightSaid}
 use Rattle.packet.specs.code.Concluded.{headerIn, closedBy}
-use Rattle.packet.proofs.Concluding.{last-inside, past-inside, right-by, clean-right}
+use Rattle.packet.proofs.Concluding.{last-inside, places-inside, right-by, clean-right}
 use borrow.Author.Needs.{needs}
 use Rattle.packet.proofs.concluded.Statement.{statement}
 use Rattle.packet.proofs.concluded.Tie as tie
@@ -36,7 +36,7 @@ enum-told c = search needs
 
 is-clean-requires : tie.Need-is-clean-requires
 is-clean-requires c κs =
-    let d = c .before .before .before in past-inside _ (words d) _ (bytes d) _ _ _ _ (d .before .before .pre)
+    let d = c .before .before .before in places-inside _ (words d) _ (bytes d) _ _ _ _ (d .before .before .pre)
 
 returns : tie.Need-returns
 returns c =

@@ -15,7 +15,7 @@ use Rattle.catalogue.specs.Shapes.{codeAllowed}
 use Rattle.packet.specs.Pieces.{Item, walk}
 use Rattle.packet.specs.Ends.{rightEnds}
 use Rattle.packet.specs.Structure.{frame, rightSum, closed}
-use Rattle.packet.specs.Verdict.{judged, bodyOf, noPast, pastFrom}
+use Rattle.packet.specs.Verdict.{judged, bodyOf, noPlaces, placesFrom}
 use Rattle.packet.specs.Said.{headerAt, checkSaid}
 use Rattle.packet.specs.code.Passing.{freshAt, keptFrom}
 use Rattle.packet.specs.declared.Accepted.{Accepted}
@@ -72,34 +72,34 @@ judgedFrom K p from = bare (judged (holds K) (itemsAt p from))
 
 -- an item of one byte is not there, not known, or has one of its codes
 abbrev pub codedIn : TagSet → List ℕ → List ℕ → ℕ → Bool
-codedIn K p past t = cond (ltb 0 (getD past t 0)) (cond (holds K t) (codeAllowed t 1 (getD p (getD past t 0 - 1) 0)) true) true
+codedIn K p places t = cond (ltb 0 (getD places t 0)) (cond (holds K t) (codeAllowed t 1 (getD p (getD places t 0 - 1) 0)) true) true
 
 -- as many tags noted as known items passed: each is fit and stands once
 unfoldable pub cleanIn : TagSet → List ℕ → List ℕ → TagSet → ℕ → Bool
-cleanIn K p past present known =
-    eqb (size present) known && (not (eqb (getD past 65 0) 0) && (codedIn K p past 34 && codedIn K p past 63))
+cleanIn K p places present known =
+    eqb (size present) known && (not (eqb (getD places 65 0) 0) && (codedIn K p places 34 && codedIn K p places 63))
 
 -- all places lie in a packet of so many bytes
-pub record PastIn (bytes : ℕ) (past : List ℕ) : Type 0 where
-  pub inside : (t : ℕ) → getD past t 0 ≤ bytes
+pub record PlacesIn (bytes : ℕ) (places : List ℕ) : Type 0 where
+  pub inside : (t : ℕ) → getD places t 0 ≤ bytes
 
 -- a walk that has come to the packet's end
-pub record Whole (K : TagSet) (p : List ℕ) (from : ℕ) (r : Passed) (past : List ℕ) (present : TagSet) : Type 0 where
+pub record Whole (K : TagSet) (p : List ℕ) (from : ℕ) (r : Passed) (places : List ℕ) (present : TagSet) : Type 0 where
   pub known : good K ≡ true
   pub inside : from ≤ length p
   pub items : List Item
   pub walked : walk 128 from (drop from p) ≡ given items
-  pub keeps : keptFrom K (freshAt from noPast noTags) items ≡ record { passed = r; past = past; present = present }
+  pub keeps : keptFrom K (freshAt from noPlaces noTags) items ≡ record { passed = r; places = places; present = present }
 
 -- a packet of a right frame, whose items begin at a place; nothing is kept of them yet
-pub record Begins (K : TagSet) (p : List ℕ) (from : ℕ) (past : List ℕ) : Type 0 where
+pub record Begins (K : TagSet) (p : List ℕ) (from : ℕ) (places : List ℕ) : Type 0 where
   pub known : good K ≡ true
   pub some : 2 ≤ length p
   pub short : length p ≤ 8192
   pub inside : from ≤ length p
-  pub none : past ≡ noPast
+  pub none : places ≡ noPlaces
 
--- the answer by the items, and the places past them where they are accepted
-pub record ChecksFrom (K : TagSet) (p : List ℕ) (from : ℕ) (r : Checked) (past : List ℕ) : Type 0 where
+-- the answer by the items, and where their values are found if they are accepted
+pub record ChecksFrom (K : TagSet) (p : List ℕ) (from : ℕ) (r : Checked) (found : List ℕ) : Type 0 where
   pub says : checkSaid r ≡ map (bodyOf (holds K)) (then (walk 128 from (drop from p)) (λ is. then (closed p is) (judged (holds K))))
-  pub places : (a : Accepted) → checkSaid r ≡ given a → past ≡ pastFrom noPast (itemsAt p from)
+  pub places : (a : Accepted) → checkSaid r ≡ given a → found ≡ placesFrom noPlaces (itemsAt p from)

@@ -2,6 +2,7 @@
 -- Assumes nothing.
 use Prim.Native.Nat.{_+_, _-_, _*_, _/_, _%_, _^_}
 use mathlib.Core.Path.{_≡_, sym, ap, _∙_}
+use lib.Bits.{bitAnd}
 use lib.ListN.{length, take, drop}
 use Rattle.number.specs.Stored.{valueOf}
 use Rattle.number.proofs.Laws.{bytes-lent}
@@ -31,9 +32,9 @@ told c =
     let s = start c in
     let i = s .args .item in
     let by = bytes-lent (c .before .before .before .before .shared-slice-known .given) in
-    tells _ _ _ (rw (size c) (s .pre .3)) (λ n e few. ap (λ x. x % 256 ^ n) (c .value .ensures)
-    ∙ (value-last _ (i .place + i .size) (i .place) n by (ap (λ m. i .place + m) (e ∙ size c)) few (s .pre .4) (s .pre .1)
-    ∙ ap (λ m. valueOf (take m (drop (i .place) (s .args .packet .now)))) (e ∙ size c)))
+    tells _ _ _ (rw (size c) (s .pre .3)) (λ few. ap (λ x. x % 256 ^ length (itemBy (s .args .packet .now) i .piece .value)) (c .value .ensures)
+    ∙ (value-last _ (i .place + i .size) (i .place) _ by (ap (λ m. i .place + m) (size c)) few (s .pre .4) (s .pre .1)
+    ∙ ap (λ m. valueOf (take m (drop (i .place) (s .args .packet .now)))) (size c)))
 
 add-end : tie.Need-add-end
 add-end c = search needs
@@ -57,13 +58,13 @@ value-requires : tie.Need-value-requires
 value-requires c κs = search needs
 
 topmost-requires : tie.Need-topmost-requires
-topmost-requires c κs = rw (c .before .before .byte-for .ensures) (told c .few)
+topmost-requires c κs = rw (c .before .before .byte-for .ensures, ← size c) (told c .few)
 
 kind-by-requires : tie.Need-kind-by-requires
 kind-by-requires c κs = rw (c .before .before .before .byte-for .ensures) (told (c .before) .small)
 
 lowest-requires : tie.Need-lowest-requires
-lowest-requires c κs = rw (c .before .before .before .before .byte-for .ensures) (told (c .before .before) .few)
+lowest-requires c κs = rw (c .before .before .before .before .byte-for .ensures, ← size (c .before .before)) (told (c .before .before) .few)
 
 mul-t18 : tie.Need-mul-t18
 mul-t18 c = search needs
@@ -77,12 +78,14 @@ returns c =
     let s = c .before .before .before .before .before .before .before .before in
     let i = s .args .item in
     let v = c .before .before .before in
+    let shape = shapeByte (shapeFor (holds (s .args .known)) (i .tag)) in
+    let n = length (itemBy (s .args .packet .now) i .piece .value) in
     let byte = v .before .before .byte-for .ensures in
-    let top = c .before .before .topmost .ensures ∙ ap (λ b. topOf (b % 16) (v .value .result)) byte in
-    let kind = c .before .kind-by .ensures ∙ (ap (λ b. kindBy b (c .before .before .topmost .result)) byte
-    ∙ (ap (kindBy (shapeByte (shapeFor (holds (s .args .known)) (i .tag)))) top ∙ told v .kind)) in
-    let code = c .lowest .ensures ∙ (ap (λ b. c .before .before .topmost .result / 2 ^ (64 - 8 * (b % 16))) byte
-    ∙ (ap (λ t. t / 2 ^ (64 - 8 * (shapeByte (shapeFor (holds (s .args .known)) (i .tag)) % 16))) top ∙ told v .code)) in
+    let width = ap (λ b. bitAnd (i .size) (b % 16)) byte ∙ ap (λ m. bitAnd m (shape % 16)) (sym (size v)) in
+    let top = c .before .before .topmost .ensures ∙ ap (λ w. topOf w (v .value .result)) width in
+    let kind = c .before .kind-by .ensures ∙ (ap (λ b. kindBy b (c .before .before .topmost .result)) byte ∙ (ap (kindBy shape) top ∙ told v .kind)) in
+    let code = c .lowest .ensures ∙ (ap (λ w. c .before .before .topmost .result / 2 ^ (64 - 8 * w)) width
+    ∙ (ap (λ t. t / 2 ^ (64 - 8 * bitAnd n (shape % 16))) top ∙ told v .code)) in
     λ k. record { tag = i .tag; kind = kind k; code = code k; part = i .place * 65536 + sym (size v) k }
 
 pub row-of-spec : {M : Type 1} → statement M

@@ -1,12 +1,14 @@
 -- The shadow of the code, not to be believed but proved to be what document 01's definitions give: how a table is filled.
 use Prim.Native.Nat.{ℕ, _+_, _-_, _*_, _/_, _%_, _^_, _≤_}
 use mathlib.Core.Path.{_≡_}
-use mathlib.Core.Bool.{cond}
+use mathlib.Core.Bool.{Bool, true, cond}
+use lib.Bits.{bitAnd}
 use mathlib.Core.List.{List, [], _∷_}
 use lib.Dec.{eqb}
 use lib.Seq.{sets}
 use Rattle.refusal.specs.Answer.{Answer, given, orElse}
 use Rattle.tagset.specs.declared.TagSet.{TagSet}
+use Rattle.catalogue.specs.code.Column.{shapeMask}
 use Rattle.catalogue.specs.declared.Shape.{Shape}
 use Rattle.catalogue.specs.declared.Shape.the-variants.{Text, Number, Absent}
 use Rattle.packet.specs.Pieces.{Item}
@@ -20,14 +22,16 @@ use Rattle.packet.specs.declared.Header.{Header}
 abbrev pub putRow : List ℕ → ℕ → RowWords → List ℕ
 putRow t n r = sets t (4 * n) (r .tag ∷ r .kind ∷ r .code ∷ r .part ∷ [])
 
--- a number of its width, which is from one to eight bytes; text and carried bytes are not read as numbers
-pub record Fitting (width n : ℕ) : Type 0 where
-  pub size : n ≡ width
-  pub some : 1 ≤ width
-  pub few : width ≤ 8
+-- a number has from one to eight bytes, which lie within its mask, and one length if it has a mark; text and carried bytes are not read as numbers
+pub record Fitting (shape : Shape) (marked : Bool) (most n : ℕ) : Type 0 where
+  pub some : 1 ≤ n
+  pub few : n ≤ 8
+  pub within : bitAnd n (shapeMask shape) ≡ n
+  pub mask : shapeMask shape ≤ 8
+  pub one : marked ≡ true → n ≡ most
 
 abbrev pub Narrow : Shape → ℕ → Type 0
-Narrow (Number width marked) n = Fitting width n
+Narrow (Number least most marked) n = Fitting (Number least most marked) marked most n
 Narrow Text n = Unit {0}
 Narrow Absent n = Unit {0}
 

@@ -1,13 +1,10 @@
 -- `records::image_of` meets its contract.
 -- Assumes nothing.
 use mathlib.Core.Path.{_∙_}
-use borrow.Author.Needs.{needs}
 use Rattle.records.proofs.Laws.{width-small, image-by}
+use borrow.Author.Needs.{needs}
 use Rattle.records.proofs.image_of.Statement.{statement}
 use Rattle.records.proofs.image_of.Tie as tie
-
-width-of-requires : tie.Need-width-of-requires
-width-of-requires c κs = search needs
 
 enum-known-content : tie.Need-enum-known-content
 enum-known-content c = search needs
@@ -18,8 +15,11 @@ row-with-requires c κs = search needs
 enum-told : tie.Need-enum-told
 enum-told c = search needs
 
+width-of-requires : tie.Need-width-of-requires
+width-of-requires c κs = search needs
+
 mark-code-requires : tie.Need-mark-code-requires
-mark-code-requires c κs = rw (c .before .before .width-of .ensures) (width-small _)
+mark-code-requires c κs = rw (c .width-of .ensures) (width-small _)
 
 row-with-requires-2 : tie.Need-row-with-requires-2
 row-with-requires-2 c κs = search needs
@@ -37,12 +37,12 @@ row-with-requires-4 : tie.Need-row-with-requires-4
 row-with-requires-4 c κs = search needs
 
 returns : tie.Need-returns
-returns c = c .row-with .ensures ∙ rw (c .before .before .before .before .width-of .ensures) (image-by _ _ (c .before .before .content .given .1))
+returns c = c .row-with .ensures ∙ image-by _ _ (c .before .before .content .given .1)
 
 returns-2 : tie.Need-returns-2
 returns-2 c =
     c .row-with2 .ensures
-    ∙ rw (c .before .mark-code .ensures, c .before .before .before .before .width-of .ensures) (image-by _ _ (c .before .before .enum-told .given .1))
+    ∙ rw (c .before .mark-code .ensures, c .before .before .width-of .ensures) (image-by _ _ (c .before .before .before .enum-told .given .1))
 
 returns-3 : tie.Need-returns-3
 returns-3 c = c .row-with3 .ensures ∙ image-by _ _ (c .before .before .content2 .given .1)
@@ -54,10 +54,10 @@ pub image-of-spec : {M : Type 1} → statement M
 image-of-spec =
     tie.close
     (tie.spec
-    width-of-requires
     enum-known-content
     row-with-requires
     enum-told
+    width-of-requires
     mark-code-requires
     row-with-requires-2
     enum-known-content-2

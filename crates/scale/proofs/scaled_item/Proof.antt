@@ -9,6 +9,7 @@ use mir.Facts.{toZ-ofZ}
 use Rattle.catalogue.specs.Items.{itemOf}
 use Rattle.catalogue.specs.declared.Found.the-variants.{Known}
 use Rattle.scale.specs.Scales.{scaled}
+use Rattle.scale.proofs.Classes.{scaled-by-range}
 use Rattle.scale.proofs.scaled_item.Statement.{statement}
 use Rattle.scale.proofs.scaled_item.Tie as tie
 
@@ -26,7 +27,7 @@ tested c =
     let i = c .before .item .given .0 .0 in
     let low : SFits w64 (i .low) = search needs in
     let high : SFits w64 (i .high) = search needs in
-    rw (toZ-ofZ low, toZ-ofZ high)
+    rw (toZ-ofZ low, toZ-ofZ high) (scaled-by-range (c .before .before .before .before .args .tag) i (found c) (c .before .before .before .before .pre))
 
 returns : tie.Need-returns
 returns c = rw (found (c .before .before .before), tested (c .before .before .before) ∙ c .if1 .taken)

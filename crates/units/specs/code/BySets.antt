@@ -11,7 +11,7 @@ abbrev pub degreeTags : TagSet
 degreeTags = knowing 51499720928 268173465
 
 abbrev pub metreTags : TagSet
-metreTags = knowing 144115462993641472 18432
+metreTags = knowing 144115462993641472 3848290715648
 
 abbrev pub speedTags : TagSet
 speedTags = knowing 72057662757405440 98304

@@ -27,7 +27,7 @@ returns-2 c = code-by _ _ _ _ (c .enum-told2 .given .1) refl
 returns-3 : tie.Need-returns-3
 returns-3 c =
     let number = c .before .enum-told3 .given .0 in
-    code-by _ _ _ _ (c .before .enum-told3 .given .1) (c .value .ensures ∙ sym (number-code (number .0) (number .1 .0) _))
+    code-by _ _ _ _ (c .before .enum-told3 .given .1) (c .value .ensures ∙ sym (number-code (number .0) (number .1 .0) (number .1 .1 .0) _))
 
 pub code-of-spec : {M : Type 1} → statement M
 code-of-spec =

@@ -17,13 +17,13 @@ enum-told-3 : tie.Need-enum-told-3
 enum-told-3 c = search needs
 
 returns : tie.Need-returns
-returns c = ap (λ s. Number (c .before .before .args .width) (isMarked s)) (sym (c .enum-told .given .1))
+returns c = ap (λ s. Number (c .before .before .args .width) (c .before .before .args .width) (isMarked s)) (sym (c .enum-told .given .1))
 
 returns-2 : tie.Need-returns-2
-returns-2 c = ap (λ s. Number (c .before .before .args .width) (isMarked s)) (sym (c .enum-told2 .given .1))
+returns-2 c = ap (λ s. Number (c .before .before .args .width) (c .before .before .args .width) (isMarked s)) (sym (c .enum-told2 .given .1))
 
 returns-3 : tie.Need-returns-3
-returns-3 c = ap (λ s. Number (c .before .before .args .width) (isMarked s)) (sym (c .enum-told3 .given .1))
+returns-3 c = ap (λ s. Number (c .before .before .args .width) (c .before .before .args .width) (isMarked s)) (sym (c .enum-told3 .given .1))
 
 pub number-shape-spec : {M : Type 1} → statement M
 number-shape-spec =

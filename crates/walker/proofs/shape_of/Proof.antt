@@ -2,7 +2,7 @@
 -- Assumes nothing.
 use mathlib.Core.Path.{_∙_}
 use borrow.Author.Needs.{needs}
-use Rattle.walker.proofs.Rows.{not-known, listed, text-shape, number-shaped}
+use Rattle.walker.proofs.Rows.{not-known, listed, unfixed-shaped, number-shaped}
 use Rattle.walker.proofs.shape_of.Statement.{statement}
 use Rattle.walker.proofs.shape_of.Tie as tie
 
@@ -18,10 +18,14 @@ enum-told c = search needs
 enum-known-item : tie.Need-enum-known-item
 enum-known-item c = search needs
 
+unfixed-shape-requires : tie.Need-unfixed-shape-requires
+unfixed-shape-requires c κs = search needs
+
 returns : tie.Need-returns
-returns c = text-shape (c .before .before .item .given .0 .0) (c .if2 .taken)
-    ∙ listed _ _ _ (c .before .before .before .before .before .before .has .ensures) (c .before .before .before .before .before .if1 .taken) _ _
-    (c .before .before .before .before .item-of .ensures) (c .before .before .item .given .1)
+returns c = c .unfixed-shape .ensures ∙ (unfixed-shaped (c .before .before .before .item .given .0 .0) (c .before .if2 .taken)
+    ∙ listed _ _ _ (c .before .before .before .before .before .before .before .has .ensures)
+    (c .before .before .before .before .before .before .if1 .taken) _ _ (c .before .before .before .before .before .item-of .ensures)
+    (c .before .before .before .item .given .1))
 
 number-shape-requires : tie.Need-number-shape-requires
 number-shape-requires c κs = search needs
@@ -47,6 +51,7 @@ shape-of-spec =
     item-of-requires
     enum-told
     enum-known-item
+    unfixed-shape-requires
     returns
     number-shape-requires
     returns-2

@@ -1,4 +1,4 @@
--- `ground::end_of` meets its contract.
+-- `ground::place_of` meets its contract.
 -- Assumes nothing.
 use Prim.Native.Nat.{_<_}
 use mathlib.Core.Path.{_≡_, sym, _∙_}
@@ -8,8 +8,8 @@ use borrow.Author.Needs.{needs}
 use Rattle.base.proofs.Cases.{byLt, clash}
 use Rattle.tagset.specs.Sets.{holds}
 use Rattle.tagset.proofs.Laws.{Words, holds-none}
-use Rattle.ground.proofs.end_of.Statement.{statement}
-use Rattle.ground.proofs.end_of.Tie as tie
+use Rattle.ground.proofs.place_of.Statement.{statement}
+use Rattle.ground.proofs.place_of.Tie as tie
 
 known : (c : tie.Then1) → holds (c .before .before .args .known) (c .before .before .args .tag) ≡ true
 known c = sym (c .before .has .ensures) ∙ c .if1 .taken
@@ -39,7 +39,7 @@ returns c = sym (rw (known (c .before)))
 returns-2 : tie.Need-returns-2
 returns-2 c = sym (rw (sym (c .before .has .ensures) ∙ c .if1 .left))
 
-pub end-of-spec : {M : Type 1} → statement M
-end-of-spec =
+pub place-of-spec : {M : Type 1} → statement M
+place-of-spec =
     tie.close
     (tie.spec has-requires mul-result element-copy-out-result cast-result returns returns-2)
