@@ -220,23 +220,26 @@ codes-free t n c e =
     let g = either (eqb t 63) _ (f .1) in
     rw (f .0, g .0, g .1)
 
--- the extended heights: their lengths, and which codes they allow
-module _ (t : ℕ) (x : isExtended t ≡ true) where
-  extended-in : (103 ≤ t) × (t ≤ 105)
-  unfolding isExtended
-  extended-in = (leb-true 103 t (both-left (leb 103 t) _ x), leb-true t 105 (both-right (leb 103 t) _ x))
+-- the extended heights
+pub extended-in : (t : ℕ) → isExtended t ≡ true → (103 ≤ t) × (t ≤ 105)
+unfolding isExtended
+extended-in t x = (leb-true 103 t (both-left (leb 103 t) _ x), leb-true t 105 (both-right (leb 103 t) _ x))
 
+-- what holds of the three tags holds of each one's
+pub byHeight {ℓ} : (P : ℕ → Type ℓ) (t : ℕ) → isExtended t ≡ true → P 103 → P 104 → P 105 → P t
+byHeight P t x a b c =
+    let e = extended-in t x in
+    byEq t 103 (λ q. rw q a) (λ o. byEq t 104 (λ q. rw q b) (λ p. let q : t ≡ 105 = omega (arith, e .0, e .1) in rw q c))
+
+-- their lengths, and which codes they allow
+module _ (t : ℕ) (x : isExtended t ≡ true) where
   pub extended-shape : shapeOf t ≡ Number 2 4 false
   unfolding shapeOf itemOf itemIn member groups
-  extended-shape =
-      let e = extended-in in
-      byEq t 103 (λ q. rw q)
-      (λ a. byEq t 104 (λ q. rw q)
-      (λ b. let q : t ≡ 105 = omega (arith, e .0, e .1) in rw q))
+  extended-shape = byHeight (λ u. shapeOf u ≡ Number 2 4 false) t x refl refl refl
 
   pub extended-code : (n c : ℕ) → codeAllowed t n c ≡ inReach n c
   unfolding codeAllowed
-  extended-code n c = let e = extended-in in rw (ne-eqb t 34 (λ z. omega (arith, e .0)), ne-eqb t 63 (λ z. omega (arith, e .0)), x)
+  extended-code n c = let e = extended-in t x in rw (ne-eqb t 34 (λ z. omega (arith, e .0)), ne-eqb t 63 (λ z. omega (arith, e .0)), x)
 
   -- a code within reach has an allowed length
   pub reach-allowed : (n c : ℕ) → inReach n c ≡ true → shapeAllows (shapeOf t) n ≡ true

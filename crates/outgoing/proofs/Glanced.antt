@@ -17,7 +17,7 @@ use Rattle.tagset.proofs.Meeting.{meet-with}
 use Rattle.catalogue.specs.Extended.{isExtended, perTwoMetres, inReach}
 use Rattle.catalogue.specs.Shapes.{shapeOf}
 use Rattle.catalogue.specs.declared.Shape.{Shape}
-use Rattle.catalogue.proofs.Columns.{extended-shape, extended-code, reach-allowed}
+use Rattle.catalogue.proofs.Columns.{extended-in, extended-shape, extended-code, reach-allowed}
 use Rattle.rows.specs.Meaning.{shapeFor}
 use Rattle.rows.specs.declared.RowWords.{RowWords}
 use Rattle.rows.specs.Taken.{tagGood, codeGood, partLength, rowGood}
@@ -39,20 +39,18 @@ reach-narrow n c some h =
 
 module _ (r : RowWords) (x : isExtended (r .tag) ≡ true) (kind : r .kind ≡ 1) (reach : inReach (partLength (r .part)) (r .code) ≡ true) where
   reach-good : codeGood (r .tag) (partLength (r .part)) (r .code) ≡ true
-  unfolding inReach isExtended
+  unfolding inReach
   reach-good =
       let n : ℕ = partLength (r .part) in
       let rest = both-right (leb 2 n) _ reach in
       let small = reach-narrow n (r .code) (leb-true 2 n (both-left (leb 2 n) _ reach)) (leb-true _ _ (both-right (leb n 4) _ rest)) in
-      let other : r .tag ≡ 1 → ⊥ = λ e. omega (arith, leb-true 103 (r .tag) (both-left (leb 103 (r .tag)) _ x)) in
+      let other : r .tag ≡ 1 → ⊥ = λ e. omega (arith, extended-in (r .tag) x .0) in
       rw (ne-eqb (r .tag) 1 other, lt-ltb (r .code) (2 ^ (8 * n)) small)
 
   height-tag : tagGood (r .tag) ≡ true
-  unfolding isExtended
   height-tag =
-      let low = leb-true 103 (r .tag) (both-left (leb 103 (r .tag)) _ x) in
-      let high = leb-true (r .tag) 105 (both-right (leb 103 (r .tag)) _ x) in
-      rw (lt-ltb 0 (r .tag) (omega (arith, low)), lt-ltb (r .tag) 2097152 (omega (arith, high)))
+      let e = extended-in (r .tag) x in
+      rw (lt-ltb 0 (r .tag) (omega (arith, e .0)), lt-ltb (r .tag) 2097152 (omega (arith, e .1)))
 
   pub height-plain : (room bytes : ℕ) → bytes ≡ rowSize r → PlainAs (shapeOf (r .tag)) room r bytes
   unfolding rowGood

@@ -1,32 +1,23 @@
 -- The two classes of items with a scale: those with a width, which go by document 01's formula, and the extended heights of W-202. No tag is of both.
 -- Assumes nothing.
 use Prim.Native.Nat.{ℕ}
-use native.Mathlib.Omega.{arith}
 use mathlib.Core.Path.{_≡_, refl, sym, ap, _∙_}
 use mathlib.Core.Bool.{Bool, true, false, not, _&&_, _||_}
 use lib.Dec.{ltb, leb}
 use lib.Signed.{ltZ}
-use borrow.Author.Tests.{leb-true}
-use Rattle.base.proofs.Cases.{byBool, byEq, byLt, clash, never, unless}
+use Rattle.base.proofs.Cases.{byBool, byLt, clash, never, unless}
 use Rattle.base.specs.Every.{allBelow}
-use Rattle.base.proofs.Every.{all-below, both-left, both-right}
+use Rattle.base.proofs.Every.{all-below, both-left}
 use Rattle.catalogue.specs.Items.{groups, member, itemIn, itemOf}
-use Rattle.catalogue.specs.Shapes.{shapeOf, lengthAllowed}
+use Rattle.catalogue.specs.Shapes.{lengthAllowed}
 use Rattle.catalogue.specs.Extended.{isExtended}
 use Rattle.catalogue.specs.declared.Item.{Item}
 use Rattle.catalogue.specs.declared.Found.{Found}
 use Rattle.catalogue.specs.declared.Found.the-variants.{Known, Absent}
 use Rattle.catalogue.proofs.Laws.{item-beyond}
+use Rattle.catalogue.proofs.Columns.{byHeight, extended-shape}
 use Rattle.scale.specs.Scales.{scaled}
 use Rattle.scale.specs.Extended.{lowEnd, highEnd}
-
--- what holds of the three tags holds of each extended height's
-byHeight {ℓ} : (P : ℕ → Type ℓ) (t : ℕ) → isExtended t ≡ true → P 103 → P 104 → P 105 → P t
-unfolding isExtended
-byHeight P t e a b c =
-    let low = leb-true 103 t (both-left (leb 103 t) _ e) in
-    let high = leb-true t 105 (both-right (leb 103 t) _ e) in
-    byEq t 103 (λ q. rw q a) (λ o. byEq t 104 (λ q. rw q b) (λ p. let q : t ≡ 105 = omega arith in rw q c))
 
 -- the catalogue's item of an extended height has the same ends, and no width
 pub record HeightItem (i : Item) : Type 0 where
@@ -50,8 +41,8 @@ height-item t i x e =
 
 -- "Accept lengths 2, 3 and 4."
 pub height-lengths : (t n : ℕ) → isExtended t ≡ true → lengthAllowed t n ≡ (leb 2 n && leb n 4)
-unfolding groups member itemIn itemOf shapeOf lengthAllowed
-height-lengths t n x = byHeight (λ t. lengthAllowed t n ≡ (leb 2 n && leb n 4)) t x refl refl refl
+unfolding lengthAllowed
+height-lengths t n x = rw (extended-shape t x)
 
 -- an item with a width and a scale is no extended height
 pub scaled-other : (t : ℕ) (i : Item) → itemOf t ≡ Known i → scaled i ≡ true → isExtended t ≡ false
