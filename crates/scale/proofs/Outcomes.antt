@@ -9,6 +9,8 @@ use Rattle.scale.specs.declared.ToHouse.{ToHouse}
 use Rattle.scale.specs.declared.ToHouse.the-variants as house
 use Rattle.scale.specs.declared.ToCode.{ToCode}
 use Rattle.scale.specs.declared.ToCode.the-variants as code
+use Rattle.scale.proofs.is_outside.Kinds as is-outside-kinds
+use Rattle.scale.proofs.is_outside.Reads as is-outside-reads
 use Rattle.scale.proofs.to_house.Kinds as to-house-kinds
 use Rattle.scale.proofs.to_house.Reads as to-house-reads
 use Rattle.scale.proofs.to_code.Kinds as to-code-kinds
@@ -25,6 +27,9 @@ code-apart (code.Is x) (code.Is y) e = ap code.Is (let g : x ≡ y = cc in g)
 code-apart (code.Is x) (code.Refused y) e = never (cc)
 code-apart (code.Refused x) (code.Is y) e = never (cc)
 code-apart (code.Refused x) (code.Refused y) e = ap code.Refused (refusal-apart x y e)
+
+pub is-outside-determined : Answered 0 is-outside-kinds.ps is-outside-kinds.r is-outside-reads.Post
+is-outside-determined κs a z z′ e e′ p q = p ∙ sym q
 
 pub to-house-determined : Answered 0 to-house-kinds.ps to-house-kinds.r to-house-reads.Post
 to-house-determined κs a z z′ e e′ p q = house-apart z z′ (p ∙ sym q)

@@ -109,7 +109,7 @@ fn scaled_item(tag: u64) -> Found
 }
 
 // Whether a value is outside a range; both ends are inside.
-fn is_outside(low: i64, high: i64, value: i64) -> bool
+pub fn is_outside(low: i64, high: i64, value: i64) -> bool
     ensures { λ r. ⌜ r ≡ beyond low high value ⌝ }
 {
     if value < low {
