@@ -171,7 +171,7 @@ extern "C" {
 
 /* Kinds of a corner (oyk_corner). */
 #define OYK_POINT 1
-#define OYK_OFF_THE_EARTH 2 /* the drone said that it looks above the horizon: there is no pin to draw */
+#define OYK_OFF_THE_EARTH 2 /* above the horizon by the drone's own mark, or past a pole: there is no pin to draw */
 
 /* How the catalogue stores an item (oyk_item). */
 #define OYK_NOT_LISTED 0      /* the catalogue has no item of this tag: every receiver carries it */
@@ -346,8 +346,8 @@ typedef struct oyk_height_answer {
 typedef struct oyk_corner_answer {
     oyk_refusal refusal;
     uint64_t kind;     /* OYK_MISSING, OYK_POINT or OYK_OFF_THE_EARTH */
-    int64_t latitude;  /* in 10^-7 degree, north of the equator; 0 where it is no point */
-    int64_t longitude; /* in 10^-7 degree, east of Greenwich; 0 where it is no point */
+    int64_t latitude;  /* in 10^-7 degree, north of the equator, from -900000000 to 900000000; 0 where it is no point */
+    int64_t longitude; /* in 10^-7 degree, east of Greenwich, from -1800000000 to 1799999999; 0 where it is no point */
 } oyk_corner_answer;
 
 /* What the catalogue has for a tag (oyk_item). Nothing is refused: for a tag that it does not have, all is 0. */
@@ -452,6 +452,8 @@ oyk_height_answer oyk_frame_centre_height(const uint8_t *packet, size_t packet_l
  * k is missing.
  * By items 80 + 2k and 81 + 2k if both are there, else by the frame centre (23 and 24) plus the offsets 24 + 2k and 25 + 2k if all four
  * are there. A mark in any row used is off the Earth. Never refusal 2.
+ * A longitude of 180 degrees or more comes back by one turn of 360 degrees, and so does one below -180: the 180th meridian is -1800000000. A
+ * latitude above 90 or below -90 degrees is off the Earth; 90 itself is the pole. Rows, conversions and listing say what was sent.
  */
 oyk_corner_answer oyk_corner(const uint8_t *packet, size_t packet_len, uint64_t low, uint64_t high, uint64_t k);
 

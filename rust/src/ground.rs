@@ -71,7 +71,8 @@ pub struct Point {
     pub longitude: i64,
 }
 
-/// A corner of the picture on the ground. A match without `_` has to say what is done with one that is off the Earth.
+/// A corner of the picture on the ground. A match without `_` has to say what is done with one that is off the Earth, as it is if the drone
+/// marked it or if frame centre and offset lead past a pole.
 ///
 /// ```
 /// use oysterknoll::{corner, Corner, Knowing};
@@ -88,9 +89,9 @@ pub struct Point {
 /// ```
 #[derive(Clone, Copy, Debug, PartialEq, Eq, Hash)]
 pub enum Corner {
-    /// At this point.
+    /// At this point, which a map can draw: the latitude is from -90 to 90 degrees, the longitude from -180 to below 180.
     At(Point),
-    /// The drone said that this corner looks above the horizon: there is no pin to draw.
+    /// The drone said that this corner looks above the horizon, or it is past a pole: there is no pin to draw.
     OffTheEarth,
     /// The packet has none that the receiver knows.
     Missing,
@@ -155,6 +156,9 @@ pub fn frame_centre_height(packet: &[u8], knowing: Knowing) -> Result<Height, Re
 /// By the full items 80 + 2k and 81 + 2k if both are there, else by the frame centre (23 and 24) plus the offsets 24 + 2k and
 /// 25 + 2k if all four are there. A mark in any row used is off the Earth.
 ///
+/// A longitude of 180 degrees or more comes back by one turn of 360 degrees, and so does one below -180; the 180th meridian is -180. A
+/// latitude above 90 or below -90 degrees is off the Earth. Rows, conversions and listing say what was sent.
+///
 /// # Errors
 ///
 /// The reader's refusals, but for 2: those with numbers 1 and 3 to 15.
@@ -171,6 +175,13 @@ pub fn frame_centre_height(packet: &[u8], knowing: Knowing) -> Result<Height, Re
 ///     Corner::At(Point { latitude: 469_001_577, longitude: 83_008_305 }),
 /// );
 /// assert_eq!(corner(packet, Knowing::ALL, 5)?, Corner::Missing);
+///
+/// // A picture across the 180th meridian: by the offset this corner is at 180.0300011 degrees.
+/// let island = include_bytes!("../../samples/island.klv");
+/// assert_eq!(
+///     corner(island, Knowing::ALL, 2)?,
+///     Corner::At(Point { latitude: -167_950_009, longitude: -1_799_699_989 }),
+/// );
 /// # Ok::<(), oysterknoll::Refusal>(())
 /// ```
 pub fn corner(packet: &[u8], knowing: Knowing, k: u64) -> Result<Corner, Refusal> {

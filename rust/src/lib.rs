@@ -15,7 +15,7 @@
 //!     Ok(Corner::At(Point { latitude, longitude })) => {
 //!         assert_eq!((latitude, longitude), (469_001_577, 83_008_305)); // in ten-millionths of a degree
 //!     }
-//!     Ok(Corner::OffTheEarth) => println!("the corner looks above the horizon"),
+//!     Ok(Corner::OffTheEarth) => println!("above the horizon or past a pole"),
 //!     Ok(Corner::Missing) => println!("the packet has no such corner"),
 //!     Err(refusal) => println!("{refusal}"),
 //! }

@@ -66,14 +66,21 @@ fn count(packet: &[u8]) -> Result<usize, Refusal> {
 
 /// The accepted samples.
 fn accepted() -> Vec<Vec<u8>> {
-    ["smallest", "tower", "relayed", "offsets", "tower_extended"]
-        .map(sample)
-        .into()
+    [
+        "smallest",
+        "tower",
+        "relayed",
+        "offsets",
+        "tower_extended",
+        "island",
+    ]
+    .map(sample)
+    .into()
 }
 
 #[test]
 fn stored_packets_are_listed() {
-    for (name, least) in [("samples", 18), ("tests/list", 1)] {
+    for (name, least) in [("samples", 19), ("tests/list", 1)] {
         let packets = listed(name);
         assert!(packets.len() >= least, "{name}: packets are missing");
         for (packet, stored) in packets {
@@ -407,6 +414,17 @@ fn corners_are_points_off_the_earth_or_missing() {
     ];
     assert_eq!(corners("offsets", Knowing::ALL), offsets);
     assert_eq!(corners("offsets", Knowing::LEAST), [Missing; 6]);
+
+    // Across the 180th meridian: corner 2 by its offsets, corner 3 by its full items at exactly 180 degrees.
+    let island = [
+        Missing,
+        at(-167_920_002, 1_799_624_995),
+        at(-167_950_009, -1_799_699_989),
+        at(-168_220_000, -1_800_000_000),
+        at(-168_200_002, 1_799_784_989),
+        Missing,
+    ];
+    assert_eq!(corners("island", Knowing::ALL), island);
 
     // A receiver without the full items takes the offsets, also where the full corner is a mark.
     let old = (82..=89).fold(Knowing::ALL, Knowing::without);

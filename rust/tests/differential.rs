@@ -14,6 +14,8 @@ mod conversions;
 mod damage;
 #[path = "differential/demands.rs"]
 mod demands;
+#[path = "differential/earth.rs"]
+mod earth;
 #[path = "differential/extended.rs"]
 mod extended;
 #[path = "differential/laws.rs"]

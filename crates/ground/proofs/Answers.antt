@@ -10,7 +10,7 @@ use Rattle.refusal.specs.Answer.{given}
 use Rattle.rows.specs.declared.RowWords.{RowWords}
 use Rattle.ground.specs.Values.{valueFor, Small}
 use Rattle.ground.specs.Ground.{heightBy, heightIn, before, sensorIn}
-use Rattle.ground.specs.Ground.{CornerSeen, noCorner, offTheEarth, on, fullCorner, offsetCorner, otherwise, cornerIn}
+use Rattle.ground.specs.Ground.{CornerSeen, noCorner, offTheEarth, on, fullCorner, offsetCorner, otherwise, plainCorner}
 use Rattle.ground.specs.Said.{cornerSaid}
 use Rattle.ground.specs.declared.Value.{Value}
 use Rattle.ground.specs.declared.Value.the-variants.{Absent}
@@ -52,22 +52,22 @@ decides (corner.Refused r) f w e n = never (cc)
 
 module _ (k : ℕ) (rs : List RowWords) where
   -- "Any other k is missing."
-  pub no-corner-0 : k ≡ 0 → given noCorner ≡ given (cornerIn k rs)
-  unfolding cornerIn
+  pub no-corner-0 : k ≡ 0 → given noCorner ≡ given (plainCorner k rs)
+  unfolding plainCorner
   no-corner-0 e = rw e
 
-  pub no-corner-5 : 5 ≤ k → given noCorner ≡ given (cornerIn k rs)
-  unfolding cornerIn
+  pub no-corner-5 : 5 ≤ k → given noCorner ≡ given (plainCorner k rs)
+  unfolding plainCorner
   no-corner-5 h = rw (lt-ltb 0 k (omega arith), le-ltb k 5 h)
 
   module _ (some : k ≡ 0 → ⊥) (few : k < 5) (x : Corner) (e : cornerSaid x ≡ given (fullCorner k rs)) where
-    pub by-offset : x ≡ corner.Missing → (y : Corner) → cornerSaid y ≡ given (offsetCorner k rs) → cornerSaid y ≡ given (cornerIn k rs)
-    unfolding cornerIn
+    pub by-offset : x ≡ corner.Missing → (y : Corner) → cornerSaid y ≡ given (offsetCorner k rs) → cornerSaid y ≡ given (plainCorner k rs)
+    unfolding plainCorner
     by-offset m y f =
         let g : fullCorner k rs ≡ noCorner = cc in
         rw (lt-ltb 0 k (omega arith), lt-ltb k 5 few, g) f
 
-    pub by-full : (y : Corner) → x ≡ y → Found y → cornerSaid x ≡ given (cornerIn k rs)
-    unfolding cornerIn
+    pub by-full : (y : Corner) → x ≡ y → Found y → cornerSaid x ≡ given (plainCorner k rs)
+    unfolding plainCorner
     by-full y q n =
         ap cornerSaid q ∙ (decides y (fullCorner k rs) (offsetCorner k rs) (sym (ap cornerSaid q) ∙ e) n ∙ rw (lt-ltb 0 k (omega arith), lt-ltb k 5 few))

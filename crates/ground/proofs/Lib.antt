@@ -1,8 +1,10 @@
 pub mod Values
 pub mod Answers
+pub mod Earth
 pub mod Rows
 pub mod Present
 pub mod Located
 pub mod Alike
+pub mod OnEarth
 pub mod Receivers
 pub mod Outcomes

@@ -21,7 +21,7 @@ use Rattle.packet.specs.Verdict.{received}
 use Rattle.packet.specs.Rows.{rowOf, rowsOf}
 use Rattle.laws.proofs.Receivers.{received-larger}
 use Rattle.ground.specs.Values.{valueFor}
-use Rattle.ground.specs.Ground.{heightIn, sensorIn, fullCorner, offsetCorner, cornerIn, fromRows, sensorHeight, frameCentreHeight, cornerOf}
+use Rattle.ground.specs.Ground.{heightIn, sensorIn, fullCorner, offsetCorner, plainCorner, cornerIn, fromRows, sensorHeight, frameCentreHeight, cornerOf}
 
 -- the rows of two receivers say the same of a tag on which they agree
 pub same-value : (K K′ : Knowing) (t : ℕ) → K t ≡ K′ t → (is : List Item) → valueFor t (rowsOf K is) ≡ valueFor t (rowsOf K′ is)
@@ -48,7 +48,7 @@ abbrev pub cornerTags : ℕ → List ℕ
 cornerTags k = (80 + 2 * k) ∷ (81 + 2 * k) ∷ (24 + 2 * k) ∷ (25 + 2 * k) ∷ 23 ∷ 24 ∷ []
 
 pub corner-looks : (k : ℕ) → LooksAt (cornerTags k) (cornerIn k)
-unfolding cornerIn fullCorner offsetCorner
+unfolding cornerIn plainCorner fullCorner offsetCorner
 corner-looks k rs ss e = rw (e .0, e .1 .0, e .1 .1 .0, e .1 .1 .1 .0, e .1 .1 .1 .1 .0, e .1 .1 .1 .1 .1 .0)
 
 module _ (K K′ : TagSet) (g : good K ≡ true) (g′ : good K′ ≡ true) (within : Included K K′)

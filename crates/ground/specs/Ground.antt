@@ -11,6 +11,7 @@ use Rattle.rows.specs.declared.RowWords.{RowWords}
 use Rattle.packet.specs.Verdict.{received}
 use Rattle.packet.specs.Rows.{rowsOf}
 use Rattle.ground.specs.Values.{valueFor}
+use Rattle.ground.specs.Earth.{beyondPole, broughtBack}
 use Rattle.ground.specs.declared.Value.{Value}
 use Rattle.ground.specs.declared.Value.the-variants.{Absent, Off, At}
 
@@ -87,8 +88,18 @@ otherwise offTheEarth other = offTheEarth
 otherwise (on a b) other = on a b
 
 -- "Any other k is missing."
+unfoldable pub plainCorner : ℕ → List RowWords → CornerSeen
+plainCorner k rs = cond (ltb 0 k && ltb k 5) (otherwise (fullCorner k rs) (offsetCorner k rs)) noCorner
+
+-- W-203 changed "the plain sum is taken": "The plain sum in document 01 is wrong there. Longitude is to come back … for sums and also for full
+-- corners at exactly 180. A latitude sum beyond 90 degrees either way is "off the Earth"." No full row has such a latitude.
+abbrev pub onEarth : CornerSeen → CornerSeen
+onEarth noCorner = noCorner
+onEarth offTheEarth = offTheEarth
+onEarth (on latitude longitude) = cond (beyondPole latitude) offTheEarth (on latitude (broughtBack longitude))
+
 unfoldable pub cornerIn : ℕ → List RowWords → CornerSeen
-cornerIn k rs = cond (ltb 0 k && ltb k 5) (otherwise (fullCorner k rs) (offsetCorner k rs)) noCorner
+cornerIn k rs = onEarth (plainCorner k rs)
 
 -- what a receiver works out of the rows of a packet, or "first … the reader's refusal (never 2)"
 unfoldable pub fromRows : {A : Type 0} → (List RowWords → A) → TagSet → List ℕ → Answer A

@@ -1,4 +1,5 @@
 pub mod Values
+pub mod Earth
 pub mod Ground
 pub mod Said
 pub mod code

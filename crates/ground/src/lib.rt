@@ -3,11 +3,12 @@
 ghost use mathlib.Core.Path.{_≡_};
 ghost use Prim.Native.Nat.{_^_, _<_};
 ghost use mathlib.Core.Bool.{true};
-ghost use Rattle.refusal.specs.Answer.{given};
+ghost use Rattle.refusal.specs.Answer.{given, map};
 ghost use Rattle.catalogue.specs.Extended.{isExtended};
 ghost use Rattle.scale.specs.Conversions.{toHouse};
 ghost use Rattle.ground.specs.Values.{inHouse, valueFor, Small};
-ghost use Rattle.ground.specs.Ground.{heightIn, sensorIn, pointOf, sumOf, fullCorner, offsetCorner, cornerIn, fromRows};
+ghost use Rattle.ground.specs.Earth.{turnFor};
+ghost use Rattle.ground.specs.Ground.{heightIn, sensorIn, pointOf, sumOf, fullCorner, offsetCorner, plainCorner, on, onEarth};
 ghost use Rattle.ground.specs.Ground.{sensorHeight, frameCentreHeight, cornerOf};
 ghost use Rattle.ground.specs.Said.{heightSaid, cornerSaid};
 ghost use Rattle.ground.specs.code.Located.{Placed, rowsHeld, placeIn, Like};
@@ -250,9 +251,9 @@ fn offset_corner(packet: &[u8], known: TagSet, places: &[u16; 128], k: u64) -> C
 }
 
 // The full rows decide where both are there, also by a mark.
-fn corner_in(packet: &[u8], known: TagSet, places: &[u16; 128], k: u64) -> Corner
+fn plain_corner(packet: &[u8], known: TagSet, places: &[u16; 128], k: u64) -> Corner
     requires { ⌜ Placed known (now packet) (now places) ⌝ }
-    ensures { λ r. ⌜ cornerSaid r ≡ given (cornerIn k (rowsHeld known (now (packet .entry)))) ⌝ }
+    ensures { λ r. ⌜ cornerSaid r ≡ given (plainCorner k (rowsHeld known (now (packet .entry)))) ⌝ }
 {
     if k == 0 {
         return Corner::Missing;
@@ -269,6 +270,59 @@ fn corner_in(packet: &[u8], known: TagSet, places: &[u16; 128], k: u64) -> Corne
     }
 }
 
+// As far as a latitude goes.
+const NORTH_POLE: i64 = 900_000_000;
+
+const SOUTH_POLE: i64 = -900_000_000;
+
+// The 180th meridian by both its names, of which the eastern one is not answered.
+const EAST_END: i64 = 1_800_000_000;
+
+const WEST_END: i64 = -1_800_000_000;
+
+// One turn of 360 degrees, up and down.
+const TURN_EAST: i64 = 3_600_000_000;
+
+const TURN_WEST: i64 = -3_600_000_000;
+
+// The turn that brings a longitude back: 180 degrees and more goes down, below -180 goes up.
+fn turn_for(longitude: i64) -> i64
+    ensures { λ r. ⌜ r ≡ turnFor longitude ⌝ }
+{
+    if EAST_END <= longitude {
+        return TURN_WEST;
+    }
+    if longitude < WEST_END {
+        return TURN_EAST;
+    }
+    0
+}
+
+// A plain point as a place on the Earth: its longitude comes back by one turn, and beyond a pole there is none.
+fn point_on_earth(plain: Point) -> Corner
+    ensures { λ r. ⌜ cornerSaid r ≡ given (onEarth (on (plain .latitude) (plain .longitude))) ⌝ }
+{
+    if scale::is_outside(SOUTH_POLE, NORTH_POLE, plain.latitude) {
+        return Corner::OffTheEarth;
+    }
+    let longitude = plain.longitude + turn_for(plain.longitude);
+    Corner::At(Point {
+        latitude: plain.latitude,
+        longitude,
+    })
+}
+
+fn on_earth(plain: Corner) -> Corner
+    ensures { λ r. ⌜ cornerSaid r ≡ map onEarth (cornerSaid plain) ⌝ }
+{
+    match plain {
+        Corner::At(point) => point_on_earth(point),
+        Corner::OffTheEarth => plain,
+        Corner::Missing => plain,
+        Corner::Refused(_) => plain,
+    }
+}
+
 // Corner k of the picture on the ground, k from 1 to 4; any other k is missing.
 pub fn corner_at(packet: &[u8], known: TagSet, k: u64) -> Corner
     ensures { λ r. ⌜ cornerSaid r ≡ cornerOf k known (now (packet .entry)) ⌝ }
@@ -277,6 +331,6 @@ pub fn corner_at(packet: &[u8], known: TagSet, k: u64) -> Corner
     let answer = located.answer;
     match answer {
         Checked::Refused(refusal) => Corner::Refused(refusal),
-        Checked::Accepted(_) => corner_in(packet, known, &located.places, k),
+        Checked::Accepted(_) => on_earth(plain_corner(packet, known, &located.places, k)),
     }
 }

@@ -23,6 +23,9 @@ use Rattle.packet.specs.Structure.{key, frame, rightSum, structure}
 use Rattle.packet.specs.Judge.{faultOf, judgeFrom, judge}
 use Rattle.packet.specs.Verdict.{verdict}
 use Rattle.packet.specs.Rows.{shapeFor, rowOf, rowsOf, words, tableOf, lentVerdict, readAnswer, readTable}
+use Rattle.ground.specs.Values.{valueBy, valueFor}
+use Rattle.ground.specs.Earth.{turnFor}
+use Rattle.ground.specs.Ground.{fullCorner, offsetCorner, plainCorner, cornerIn}
 use Rattle.worked.specs.Values.{right, packet, values}
 
 pub all-right : all right values ≡ true
@@ -31,4 +34,5 @@ unfolding values readLength valueFrom groups member itemIn itemOf codes half ori
     readTag tagSecond tagThird weighed holds shapeOf codeAllowed rows rowsFrom allTags inCatalogue good
     readItem walk key frame rightEnds rightSum structure faultOf judgeFrom judge verdict
     shapeFor rowOf rowsOf words tableOf lentVerdict readAnswer readTable presentFrom presentIn withTag same packet
+    valueBy valueFor turnFor fullCorner offsetCorner plainCorner cornerIn
 all-right = refl

@@ -1,4 +1,4 @@
--- Document 01, Worked values: those with a star, as one list with W-202's, and one test over the definitions that the contracts cite.
+-- Document 01, Worked values: those with a star, as one list with W-202's and W-203's, and one test over the definitions that the contracts cite.
 use Prim.Native.Nat.{ℕ, _-_, _*_, _+_}
 use mathlib.Core.Bool.{Bool, true, false, _&&_}
 use mathlib.Core.List.{List, [], _∷_, _++_}
@@ -18,6 +18,7 @@ use Rattle.packet.specs.Rows.{words, readAnswer, readTable}
 use Rattle.rows.specs.Meaning.{readingKind}
 use Rattle.rows.specs.declared.RowWords.{RowWords}
 use Rattle.rows.specs.declared.Filled.{Filled}
+use Rattle.ground.specs.Ground.{CornerSeen, noCorner, offTheEarth, on, cornerIn}
 
 abbrev pub sameRead : Read → Read → Bool
 sameRead (got v s) (got w t) = eqb v w && eqb s t
@@ -53,6 +54,17 @@ sameCode c d = eqb (c .code) (d .code)
 abbrev pub sameFilled : Filled → Filled → Bool
 sameFilled f g = eqb (f .count) (g .count) && sameSet (f .present) (g .present)
 
+abbrev pub sameCorner : CornerSeen → CornerSeen → Bool
+sameCorner noCorner noCorner = true
+sameCorner offTheEarth offTheEarth = true
+sameCorner (on a b) (on c d) = sameWhole a c && sameWhole b d
+sameCorner noCorner offTheEarth = false
+sameCorner noCorner (on c d) = false
+sameCorner offTheEarth noCorner = false
+sameCorner offTheEarth (on c d) = false
+sameCorner (on a b) noCorner = false
+sameCorner (on a b) offTheEarth = false
+
 -- a lent table of words that are not zero, one longer than the reader needs
 abbrev pub lent : List ℕ
 lent = replicate 513 7
@@ -65,6 +77,13 @@ tableWith rows = words rows ++ (replicate (512 - 4 * length rows) 0 ++ (7 ∷ []
 abbrev pub numberRow : ℕ → ℕ → ℕ → ℕ → RowWords
 numberRow place size tag code = record { tag = tag; kind = readingKind; code = code; part = place * 65536 + size }
 
+-- the rows of corner 1: frame centre and offset, latitude before longitude; and the full ones
+abbrev pub byOffset : ℕ → ℕ → ℕ → ℕ → List RowWords
+byOffset north east up right = numberRow 0 4 23 north ∷ numberRow 0 4 24 east ∷ numberRow 0 2 26 up ∷ numberRow 0 2 27 right ∷ []
+
+abbrev pub full : ℕ → ℕ → List RowWords
+full north east = numberRow 0 4 82 north ∷ numberRow 0 4 83 east ∷ []
+
 pub data Case : Type 0 where
   -- the bytes of a length, and what reading them finds
   lengthCase : List ℕ → Read → Case
@@ -73,6 +92,8 @@ pub data Case : Type 0 where
   codeCase : ℕ → ℕ → ℤ → Answer Code → Case
   -- a packet, the rows that a receiver of the whole catalogue reads, and the two words beside them
   packetCase : List ℕ → List RowWords → TagSet → Case
+  -- rows, and the corner 1 that they give
+  cornerCase : List RowWords → CornerSeen → Case
 
 abbrev pub right : Case → Bool
 right (lengthCase bytes found) = sameRead (readLength bytes) found
@@ -81,6 +102,7 @@ right (codeCase tag n value answer) = sameAnswer sameCode (toCode tag n value) a
 right (packetCase packet rows present) =
     sameAnswer sameFilled (readAnswer allTags packet lent) (given (record { count = length rows; present = present }))
     && same (readTable allTags packet lent) (tableWith rows)
+right (cornerCase rows corner) = sameCorner (cornerIn 1 rows) corner
 
 -- "The packet key, 11, 02 08 00 00 00 00 00 00 00 01, 41 01 11, 01 02 62 A6 is accepted."
 unfoldable pub packet : List ℕ
@@ -132,4 +154,19 @@ values =
     ∷ houseCase 15 5 0xFFFF (house (pos 19000000))
     -- the packet: place, length, tag and code of its rows; 2 and 1 are bits of the low word, 65 is bit 1 of the high one
     ∷ packetCase packet (numberRow 19 8 2 1 ∷ numberRow 29 1 65 17 ∷ numberRow 32 2 1 25254 ∷ []) (knowing 6 2)
+    -- W-203: the island's "corner at 180.03 degrees", and as far below -180
+    ∷ cornerCase (byOffset 0 0x7FFEA279 0 0x4000) (on (pos 0) (negℤ (pos 1799699989)))
+    ∷ cornerCase (byOffset 0 0x80015D87 0 0xC000) (on (pos 0) (pos 1799699989))
+    -- "-180 (included) to 180 (excluded)", "also for full corners at exactly 180"
+    ∷ cornerCase (byOffset 0 0x7FFFFFFF 0 0) (on (pos 0) (negℤ (pos 1800000000)))
+    ∷ cornerCase (full 0x7FFFFFFF 0x7FFFFFFF) (on (pos 900000000) (negℤ (pos 1800000000)))
+    ∷ cornerCase (full 0x80000001 0x7FFFFFFE) (on (negℤ (pos 900000000)) (pos 1799999999))
+    ∷ cornerCase (full 0 0x80000001) (on (pos 0) (negℤ (pos 1800000000)))
+    -- "A latitude sum beyond 90 degrees": the shown one; the first is 90.00000003 degrees exactly
+    ∷ cornerCase (byOffset 0x7FFFFFC9 0 0x0001 0) (on (pos 900000000) (pos 0))
+    ∷ cornerCase (byOffset 0x7FFFFFCA 0 0x0001 0) offTheEarth
+    ∷ cornerCase (byOffset 0x80000037 0 0xFFFF 0) (on (negℤ (pos 900000000)) (pos 0))
+    ∷ cornerCase (byOffset 0x80000036 0 0xFFFF 0) offTheEarth
+    -- a row used that is not there comes before
+    ∷ cornerCase (numberRow 0 4 23 0x7FFFFFFF ∷ numberRow 0 4 24 0 ∷ numberRow 0 2 26 0x7FFF ∷ []) noCorner
     ∷ []

@@ -41,16 +41,31 @@ impl Values<'_> {
     /// The full rows decide where both are present, else the offsets from the frame centre.
     fn corner(&self, k: usize) -> Corner {
         if let Some(full) = self.point(80 + 2 * k) {
-            return full.map_or(Corner::OffTheEarth, |(north, east)| Corner::At(north, east));
+            return full.map_or(Corner::OffTheEarth, on_earth);
         }
         match (self.point(23), self.point(24 + 2 * k)) {
             (Some(Some(centre)), Some(Some(offset))) => {
-                Corner::At(centre.0 + offset.0, centre.1 + offset.1)
+                on_earth((centre.0 + offset.0, centre.1 + offset.1))
             }
             (Some(_), Some(_)) => Corner::OffTheEarth,
             _ => Corner::Missing,
         }
     }
+}
+
+/// Beyond a pole there is no place, and a longitude comes back by one turn.
+fn on_earth((north, east): (i64, i64)) -> Corner {
+    const HALF_TURN: i64 = 1_800_000_000;
+    if north.abs() > 900_000_000 {
+        return Corner::OffTheEarth;
+    }
+    if east >= HALF_TURN {
+        return Corner::At(north, east - 2 * HALF_TURN);
+    }
+    if east < -HALF_TURN {
+        return Corner::At(north, east + 2 * HALF_TURN);
+    }
+    Corner::At(north, east)
 }
 
 /// Corner k of the picture on the ground.

@@ -39,7 +39,7 @@ pub enum Unit {
     Microsecond,
 }
 
-const DEGREE: i64 = 10_000_000;
+pub const DEGREE: i64 = 10_000_000;
 pub const METRE: i64 = 1_000;
 const METRE_A_SECOND: i64 = 1_000;
 const MILLIBAR: i64 = 1_000;

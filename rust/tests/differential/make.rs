@@ -106,12 +106,26 @@ impl Maker {
         }
     }
 
+    /// The rows that heights and corners use, the frame centre often where an offset leads past a pole or the 180th meridian.
     fn add_places(&mut self) {
         for tag in PLACES {
-            if !self.random.one_in(6) {
+            if self.random.one_in(6) {
+                continue;
+            }
+            if (tag == 23 || tag == 24) && self.random.one_in(2) {
+                let code = self.end_code();
+                self.push(tag, 4);
+                put_number(&mut self.store, code, 4);
+            } else {
                 self.add(tag);
             }
         }
+    }
+
+    /// A code of four bytes no farther from the ends of its range than an offset leads; half way between them is the mark.
+    fn end_code(&mut self) -> u64 {
+        const OFFSET: usize = 1_789_570;
+        0x8000_0000 - OFFSET as u64 + self.random.below(2 * OFFSET + 1) as u64
     }
 
     fn add_large(&mut self) {

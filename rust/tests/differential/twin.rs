@@ -66,6 +66,13 @@ alterations! {
     Item75Before104,
     LengthAskedOfEveryTag,
     RangeBeforeLength,
+    SumRoundedOnce,
+    LongitudePast180Stays,
+    LongitudeOf180Stays,
+    FullCornerAt180Stays,
+    LatitudeHeldAtThePole,
+    PoleIsOffTheEarth,
+    PoleBeforeMissing,
 }
 
 /// The twin, with at most one rule told wrongly.

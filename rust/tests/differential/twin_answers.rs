@@ -1,9 +1,13 @@
 //! The twin's word on an item, its conversions, heights, corners and listing.
 
 use crate::catalogue::{
-    form, unit, Form, Unit, ALL, DEGREE_CELSIUS, EXTENDED_HIGH, EXTENDED_LOW, METRE,
+    form, unit, Form, Unit, ALL, DEGREE, DEGREE_CELSIUS, EXTENDED_HIGH, EXTENDED_LOW, METRE,
 };
 use crate::twin::{refused, Altered, Refused, Row, Twin, CARRIED, MARK, TEXT};
+
+/// As far as a latitude goes either way, and half a turn of longitude.
+pub const POLE: i64 = 90 * DEGREE;
+pub const HALF_TURN: i64 = 180 * DEGREE;
 
 /// A scale: the value is `origin` + number × `range` / `steps`, exactly. No code is above `last`.
 #[derive(Clone, Copy)]
@@ -256,7 +260,6 @@ impl Twin {
             return Ok(TwinCorner::Missing);
         }
         let full = [80 + 2 * k, 81 + 2 * k].map(|tag| self.house(&rows, tag));
-        let by_offsets = [23, 24, 24 + 2 * k, 25 + 2 * k].map(|tag| self.house(&rows, tag));
         let full_is_a_mark = full.contains(&Some(None));
         if full_is_a_mark && self.is(Altered::OneFullCornerRowDecides) {
             return Ok(TwinCorner::OffTheEarth);
@@ -264,11 +267,63 @@ impl Twin {
         let decides = full.iter().all(Option::is_some)
             && !(full_is_a_mark && self.is(Altered::OffsetsWhenAFullCornerIsAMark));
         Ok(if decides {
-            corner_of(full, [Some(Some(0)); 2])
+            self.on_earth(full, self.is(Altered::FullCornerAt180Stays))
         } else {
-            let [latitude, longitude, north, east] = by_offsets;
-            corner_of([latitude, longitude], [north, east])
+            let sums = [[23, 24 + 2 * k], [24, 25 + 2 * k]].map(|tags| self.sum(&rows, tags));
+            self.on_earth(sums, false)
         })
+    }
+
+    /// The sum of a centre and an offset, each of them in house units; nothing if one is not there, nothing inside if one is a mark.
+    fn sum(self, rows: &[Row], [centre, offset]: [u64; 2]) -> Option<Option<i64>> {
+        let sum = [self.house(rows, centre)?, self.house(rows, offset)?]
+            .into_iter()
+            .sum::<Option<i64>>();
+        if sum.is_some() && self.is(Altered::SumRoundedOnce) {
+            return Some(exact_sum(rows, [centre, offset]));
+        }
+        Some(sum)
+    }
+
+    /// Where two sums are on the Earth (W-203): not beyond a pole, and in -180 to below 180 degrees.
+    fn on_earth(self, sums: [Option<Option<i64>>; 2], stays: bool) -> TwinCorner {
+        let latitude = match sums[0] {
+            Some(Some(latitude)) if self.is(Altered::LatitudeHeldAtThePole) => {
+                Some(Some(latitude.clamp(-POLE, POLE)))
+            }
+            latitude => latitude,
+        };
+        let pole = POLE - i64::from(self.is(Altered::PoleIsOffTheEarth));
+        let is_beyond = matches!(latitude, Some(Some(latitude)) if latitude.abs() > pole);
+        if is_beyond && self.is(Altered::PoleBeforeMissing) {
+            return TwinCorner::OffTheEarth;
+        }
+        let (Some(latitude), Some(longitude)) = (latitude, sums[1]) else {
+            return TwinCorner::Missing;
+        };
+        match latitude.zip(longitude) {
+            Some((latitude, longitude)) if !is_beyond => {
+                let longitude = if stays {
+                    longitude
+                } else {
+                    self.brought_back(longitude)
+                };
+                TwinCorner::At(latitude, longitude)
+            }
+            _ => TwinCorner::OffTheEarth,
+        }
+    }
+
+    /// The longitude in -180 to below 180 degrees that is the same modulo a turn.
+    fn brought_back(self, longitude: i64) -> i64 {
+        let turn = 2 * HALF_TURN;
+        if self.is(Altered::LongitudePast180Stays) {
+            return longitude;
+        }
+        if self.is(Altered::LongitudeOf180Stays) {
+            return HALF_TURN - (HALF_TURN - longitude).rem_euclid(turn);
+        }
+        (longitude + HALF_TURN).rem_euclid(turn) - HALF_TURN
     }
 
     /// The listing of a packet; it knows the whole catalogue.
@@ -301,20 +356,16 @@ impl Twin {
     }
 }
 
-/// The sum of two places, each row of which is used.
-fn corner_of(place: [Option<Option<i64>>; 2], offset: [Option<Option<i64>>; 2]) -> TwinCorner {
-    let [Some(latitude), Some(longitude)] = place else {
-        return TwinCorner::Missing;
+/// The exact sum of two signed rows, then its nearest house unit.
+fn exact_sum(rows: &[Row], tags: [u64; 2]) -> Option<i64> {
+    let fraction = |tag| {
+        let row = rows.iter().find(|row| row.tag == tag)?;
+        let scale = Scale::of(tag, row.length)?;
+        Some((scale.number(row.code) * scale.range, scale.steps))
     };
-    let [Some(north), Some(east)] = offset else {
-        return TwinCorner::Missing;
-    };
-    match (latitude, longitude, north, east) {
-        (Some(latitude), Some(longitude), Some(north), Some(east)) => {
-            TwinCorner::At(latitude + north, longitude + east)
-        }
-        _ => TwinCorner::OffTheEarth,
-    }
+    let [(centre, centre_steps), (offset, offset_steps)] = [fraction(tags[0])?, fraction(tags[1])?];
+    let numerator = centre * offset_steps + offset * centre_steps;
+    Some(nearest(numerator, centre_steps * offset_steps) as i64)
 }
 
 fn push_hex(listing: &mut String, bytes: &[u8]) {

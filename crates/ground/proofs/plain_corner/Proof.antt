@@ -1,10 +1,10 @@
--- `ground::corner_in` meets its contract.
+-- `ground::plain_corner` meets its contract.
 -- Assumes nothing.
 use native.Mathlib.Omega.{arith}
 use borrow.Author.Needs.{needs}
 use Rattle.ground.proofs.Answers.{no-corner-0, no-corner-5, by-offset, by-full}
-use Rattle.ground.proofs.corner_in.Statement.{statement}
-use Rattle.ground.proofs.corner_in.Tie as tie
+use Rattle.ground.proofs.plain_corner.Statement.{statement}
+use Rattle.ground.proofs.plain_corner.Tie as tie
 
 returns : tie.Need-returns
 returns c = no-corner-0 _ _ (c .if1 .taken)
@@ -53,8 +53,8 @@ returns-6 c =
     by-full _ _ (c .before .before .before .before .if1 .left) (c .before .before .before .if2 .left) (c .before .before .full-corner .result)
     (c .before .before .full-corner .ensures) _ (c .enum-told4 .given .1) tt
 
-pub corner-in-spec : {M : Type 1} → statement M
-corner-in-spec =
+pub plain-corner-spec : {M : Type 1} → statement M
+plain-corner-spec =
     tie.close
     (tie.spec
     returns
