@@ -63,57 +63,60 @@ fn plain(codes: (u32, u16), tag: u64) -> Option<i64> {
     Some(centre + offset)
 }
 
-#[test]
-fn sums_about_the_180th_meridian() {
+/// Hands on the corner and the plain sum for each code of row 23 or 24 with each offset to it; the other coordinate is far from its ends.
+fn each_sum(name: &str, tag: u64, mut see: impl FnMut(TwinCorner, Option<i64>)) {
     let mut comparer = Comparer::new(Twin::TRUE);
-    let (mut moved, mut stayed) = (0, 0);
-    for (n, east) in centres().enumerate() {
+    for (n, code) in centres().enumerate() {
         let k = n as u64 % 4 + 1;
         for by in OFFSETS.into_iter().chain([0x8000]) {
-            let packet = with_rows(&by_offsets(k, [0x1234_5678, east], [1, by]));
+            let (centre, offset) = match tag {
+                23 => ([code, 0x0123_4567], [by, 1]),
+                _ => ([0x1234_5678, code], [1, by]),
+            };
+            let packet = with_rows(&by_offsets(k, centre, offset));
             must_hold(comparer.corner(&packet, ALL, k));
             let corner = Twin::TRUE.corner(&packet, ALL, k).expect("a right packet");
             assert!(is_on_earth(corner), "{corner:?}");
-            match (corner, plain((east, by), 24)) {
-                (At(_, longitude), Some(sum)) if longitude == sum => stayed += 1,
-                (At(_, longitude), Some(sum)) => {
-                    moved += 1;
-                    assert_eq!((sum - longitude).abs(), 2 * HALF_TURN, "one turn");
-                }
-                (OffTheEarth, None) => {}
-                other => panic!("{other:?}"),
-            }
+            see(corner, plain((code, by), tag));
         }
     }
-    report("sums about the 180th meridian", &comparer.tally);
+    report(name, &comparer.tally);
+}
+
+#[test]
+fn sums_about_the_180th_meridian() {
+    let (mut moved, mut stayed) = (0, 0);
+    each_sum("sums about the 180th meridian", 24, |corner, sum| {
+        match (corner, sum) {
+            (At(_, longitude), Some(sum)) if longitude == sum => stayed += 1,
+            (At(_, longitude), Some(sum)) => {
+                moved += 1;
+                assert_eq!((sum - longitude).abs(), 2 * HALF_TURN, "one turn");
+            }
+            (OffTheEarth, None) => {}
+            other => panic!("{other:?}"),
+        }
+    });
     assert!(moved > 100 && stayed > 100, "{moved} and {stayed}");
 }
 
 #[test]
 fn sums_about_the_poles() {
-    let mut comparer = Comparer::new(Twin::TRUE);
     let (mut on, mut off) = (0, 0);
-    for (n, north) in centres().enumerate() {
-        let k = n as u64 % 4 + 1;
-        for by in OFFSETS.into_iter().chain([0x8000]) {
-            let packet = with_rows(&by_offsets(k, [north, 0x0123_4567], [by, 1]));
-            must_hold(comparer.corner(&packet, ALL, k));
-            let corner = Twin::TRUE.corner(&packet, ALL, k).expect("a right packet");
-            match (corner, plain((north, by), 23)) {
-                (At(latitude, _), Some(sum)) => {
-                    on += 1;
-                    assert!(latitude == sum && sum.abs() <= POLE, "{sum}");
-                }
-                (OffTheEarth, Some(sum)) => {
-                    off += 1;
-                    assert!(sum.abs() > POLE, "{sum}");
-                }
-                (OffTheEarth, None) => {}
-                other => panic!("{other:?}"),
+    each_sum("sums about the poles", 23, |corner, sum| {
+        match (corner, sum) {
+            (At(latitude, _), Some(sum)) => {
+                on += 1;
+                assert!(latitude == sum && sum.abs() <= POLE, "{sum}");
             }
+            (OffTheEarth, Some(sum)) => {
+                off += 1;
+                assert!(sum.abs() > POLE, "{sum}");
+            }
+            (OffTheEarth, None) => {}
+            other => panic!("{other:?}"),
         }
-    }
-    report("sums about the poles", &comparer.tally);
+    });
     assert!(on > 100 && off > 100, "{on} and {off}");
 }
 
