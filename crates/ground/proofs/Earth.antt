@@ -29,7 +29,7 @@ unfolding turnFor
 turns-none (pos n) e = rw (lt-leb 1800000000 n (ltb-true n 1800000000 e))
 turns-none (negsuc n) e = rw (le-ltb 1799999999 n (leb-true n 1799999999 (both-left (leb n 1799999999) _ e)))
 
--- "where the plain sum was in range, nothing changed"
+-- one in the range stays as it is
 pub range-stays : (v : ℤ) → inRange v ≡ true → broughtBack v ≡ v
 range-stays v e = ap (λ t. v +ℤ t) (turns-none v e) ∙ +ℤ-idr v
 

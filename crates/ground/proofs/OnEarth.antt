@@ -48,14 +48,12 @@ within (suc x) (negsuc n) e = omega (arith, ltb-false x n (neither-left (ltb x n
 value-within : {t u width x : ℕ} (k : Like t u width) (i : Item) → itemOf u ≡ Known i → i .low ≡ negℤ (pos x) → i .high ≡ pos x
     → (rs : List RowWords) (v : ℤ) → valueFor t rs ≡ At v → natAbs v ≤ x
 value-within {t} {u} {width} {x} k i e low high rs v f =
-    let same : itemWith u (k .group) ≡ i = known-same (sym (k .other) ∙ e) in
+    let told : Known (itemWith u (k .group)) ≡ Known i = sym (k .other) ∙ e in
+    let same : itemWith u (k .group) ≡ i = cc in
     let inside : beyond (k .group .low) (k .group .high) v ≡ false = value-inside (record { known = k .one; has-scale = k .scale }) v rs f in
     let from : k .group .low ≡ negℤ (pos x) = ap (λ j. j .low) same ∙ low in
     let to : k .group .high ≡ pos x = ap (λ j. j .high) same ∙ high in
     within x v (rw (from, to) at inside)
-  where
-    known-same : {i j : Item} → Known i ≡ Known j → i ≡ j
-    known-same e = cc
 
 latitude-within : {t : ℕ} → Like t 23 4 → (rs : List RowWords) (v : ℤ) → valueFor t rs ≡ At v → natAbs v ≤ 900000000
 unfolding itemOf itemIn member groups
@@ -149,7 +147,7 @@ module _ (k : ℕ) (rs : List RowWords) (a b : ℤ) where
       let p = pointed _ _ a b e in
       (latitude-within (like-latitude k some few) rs a (p .0), longitude-within (like-longitude k some few) rs b (p .1))
 
-  -- "One turn is enough": no sum of a centre and an offset is farther than 0.075 degrees past 180
+  -- no sum of a centre and an offset is farther than 0.075 degrees past 180, so one turn is enough
   offset-far : 0 < k → k < 5 → offsetCorner k rs ≡ on a b → natAbs b ≤ 1800750000
   unfolding offsetCorner
   offset-far some few e =
@@ -172,7 +170,7 @@ module _ (k : ℕ) (rs : List RowWords) (a b : ℤ) where
   unfolding cornerIn
   past-pole e p = rw (e, p)
 
-  -- "where the plain sum was in range, nothing changed"
+  -- where the plain point was in range, nothing changed
   pub as-before : plainCorner k rs ≡ on a b → beyondPole a ≡ false → inRange b ≡ true → cornerIn k rs ≡ on a b
   as-before e p r = brought-back e p ∙ ap (on a) (range-stays b r)
 
@@ -191,10 +189,15 @@ module _ (k : ℕ) (rs : List RowWords) (a b : ℤ) where
   full-moves some few e q =
       brought-back (full-plain some few e) (no-pole a (full-far some few e .0)) ∙ rw q
 
--- missing comes before off the Earth: what lacks a row used is missing, and nothing else is
-pub still-missing : (k : ℕ) (rs : List RowWords) → cornerIn k rs ≡ noCorner → plainCorner k rs ≡ noCorner
+-- missing comes before off the Earth: what lacks a row used is still missing
+pub still-missing : (k : ℕ) (rs : List RowWords) → plainCorner k rs ≡ noCorner → cornerIn k rs ≡ noCorner
 unfolding cornerIn
-still-missing k rs = go (plainCorner k rs)
+still-missing k rs e = rw e
+
+-- and nothing else is
+pub was-missing : (k : ℕ) (rs : List RowWords) → cornerIn k rs ≡ noCorner → plainCorner k rs ≡ noCorner
+unfolding cornerIn
+was-missing k rs = go (plainCorner k rs)
   where
     go : (c : CornerSeen) → onEarth c ≡ noCorner → c ≡ noCorner
     go noCorner e = refl
