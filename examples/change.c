@@ -6,8 +6,8 @@
  * The value is in house units, so "change 19 -70000000 samples/tower.klv" sets the camera's mounting to 7 degrees below the platform's
  * plane. The packet is in the file named, or on standard input. All other items come out as they were, also those that nobody knows; the
  * checksum is new, and lengths take their shortest form.
- * It ends with 0, with 1 where packet or value are refused or the packet has no such item, and with 2 where the arguments are no numbers,
- * there is no packet to read, or the output is broken.
+ * It ends with 0, with 1 where packet or value are refused or the packet has no such item or one that is withdrawn, and with 2 where the
+ * arguments are no numbers, there is no packet to read, or the output is broken.
  */
 #include <errno.h>
 #include <stdlib.h>
@@ -58,6 +58,11 @@ static int change(const uint8_t *packet, size_t length, uint64_t tag, int64_t va
     n = find_row(table, rows.count, packet, length, tag);
     if (n == rows.count) {
         fprintf(stderr, "change: the packet has no item %" PRIu64 "\n", tag);
+        return REFUSED;
+    }
+    /* A withdrawn item has length 0, and no reading to change. */
+    if (oyk_has(rows.withdrawn.low, rows.withdrawn.high, tag)) {
+        fprintf(stderr, "change: the packet has withdrawn item %" PRIu64 "\n", tag);
         return REFUSED;
     }
     code = oyk_to_code(tag, length_of(&table[4 * n]), value);

@@ -23,6 +23,8 @@ static const char *kind_of(uint64_t kind)
         return "text";
     case OYK_CARRIED:
         return "carried";
+    case OYK_WITHDRAWN:
+        return "withdrawn";
     }
     return "no more"; /* OYK_NO_MORE, with which the walk ends */
 }

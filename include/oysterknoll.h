@@ -23,7 +23,7 @@
  *     length is 0.
  *   - What is lent as const is only read. Inputs may overlap each other; an output may not overlap any input.
  *   - On a refusal no memory lent changes, and none carries a part of the refusal: all of it is in the answer.
- *   - On x86-64 oyk_list takes 5,304 bytes of stack, and any other call at most 1,208 bytes.
+ *   - On x86-64 oyk_list takes 5,400 bytes of stack, and any other call at most 1,272 bytes.
  *
  * Knowing set
  *   Which items of the catalogue a receiver knows, as two words: tag t from 0 to 63 is bit t of low, tag t from 64 to 127 is bit t - 64
@@ -33,17 +33,25 @@
  *     oyk_sensor_height(packet, length, OYK_KNOWS_ALL_LOW, OYK_KNOWS_ALL_HIGH & ~(UINT64_C(1) << (104 - 64)))
  *
  * Which items are there
- *   oyk_check and oyk_read answer two words beside the count: tag t is bit t of the pair, as in a knowing set, and is set where a row of tag t
- *   is not carried. Then oyk_has answers for a tag just what a scan of all rows would, and the number of set bits is the number of rows that
- *   are not carried. A planner's screen that asks thirty times a second whether its packet has a frame centre (23 and 24) keeps the words of
- *   one check, and needs neither a table nor a scan:
+ *   oyk_check and oyk_read answer two pairs of words beside the count, present and withdrawn. In each, tag t is bit t of the pair, as in a
+ *   knowing set. In present it is set where a row of tag t is not carried: then oyk_has answers for a tag just what a scan of all rows would, and
+ *   the number of set bits is the number of rows that are not carried. In withdrawn it is set where the row is withdrawn.
  *
- *     oyk_present present = oyk_check(packet, length, OYK_KNOWS_ALL_LOW, OYK_KNOWS_ALL_HIGH).present;
+ *   For whoever draws what is there: a sender withdraws an item, by length 0, to say that its earlier value no longer holds. Such an item is a
+ *   row like others, so that its bit is set in present, though it has no value and heights and corners treat it as absent. A tag has a value
+ *   exactly where its bit is set in present and not in withdrawn. A planner's screen that asks thirty times a second whether its packet has a
+ *   frame centre (23 and 24) takes the words of one check, keeps those of the values, and needs neither a table nor a scan:
+ *
+ *     oyk_count_answer checked = oyk_check(packet, length, OYK_KNOWS_ALL_LOW, OYK_KNOWS_ALL_HIGH);
+ *     uint64_t low = checked.present.low & ~checked.withdrawn.low;
+ *     uint64_t high = checked.present.high & ~checked.withdrawn.high;
  *     ...
- *     if (oyk_has(present.low, present.high, 23) && oyk_has(present.low, present.high, 24))
+ *     if (oyk_has(low, high, 23) && oyk_has(low, high, 24))
+ *
+ *   Whether the drone took its frame centre back, oyk_has says of the words in withdrawn.
  *
  *   A carried item sets no bit: the words of an older receiver, which does not know 23, lack it though the packet has such an item and hands
- *   it on. They are the newer receiver's words within the older one's knowing set. A mark is there like any other known item.
+ *   it on. Both pairs are the newer receiver's within the older one's knowing set. A mark is there, and is a value, like any other known item.
  *
  * House units
  *   Values are whole numbers of 10^-7 degree, mm, mm/s, 0.001 mbar, 0.001 percent or 0.001 degree C. The items that have a scale, each
@@ -77,22 +85,26 @@
  *   of a row. At every other tag they do not ask for it, whatever it is.
  *
  * Rows
- *   A table has four words for each row: tag; kind; the stored code (0 for text and carried); OYK_PART(place, length) of the value in the
- *   buffer, which is the packet if the rows were read from one. A row is bad, and is refused by 17, if
+ *   A table has four words for each row: tag; kind; the stored code (0 for text, carried and withdrawn); OYK_PART(place, length) of the value in
+ *   the buffer, which is the packet if the rows were read from one. A known item of length 0 is a withdrawn row, whatever the catalogue stores
+ *   it as; only 1, 2 and 65 may not be withdrawn. A row is bad, and is refused by 17, if
  *   - its tag is not 1 to 2,097,151;
- *   - its kind is not the one that this receiver gives the tag: carried for a tag that it does not know, text for a text, for a number the
- *     mark where the code is the item's mark and else the reading;
+ *   - its kind is not one that this receiver gives the tag: carried for a tag that it does not know; for one that it knows withdrawn, but for
+ *     1, 2 and 65, or text for a text, for a number the mark where the code is the item's mark and else the reading;
  *   - it is text or carried and has a code other than 0, or its place plus its length is beyond the buffer;
+ *   - it is text of length 0;
+ *   - it is withdrawn and has a code or a length other than 0;
  *   - it is a number with another length than the catalogue's (2, 3 or 4 for an extended height), or a code that is too wide for its length.
- *   The place of a number is not looked at, nor is the code of item 1: the writer works the checksum out. What makes no row bad but a packet
- *   wrong (a text of 0 or of over 127 bytes, a known tag twice, item 34 or 63 outside its codes, an extended height beyond 40,000 m, an order
- *   that starts or ends wrongly) is refused by its own number.
+ *   The place of a number or of a withdrawn row is not looked at, nor is the code of item 1: the writer works the checksum out. What makes no
+ *   row bad but a packet wrong (a text of over 127 bytes, a known tag twice, withdrawn or not, item 34 or 63 outside its codes, an extended
+ *   height beyond 40,000 m, an order that starts or ends wrongly) is refused by its own number. Up to version 3 a text row of length 0 was
+ *   refused by 12, and a packet with a known item of length 0 as well.
  *
  * Receivers of different age
  *   An item that a receiver does not know is as if it were not there for heights and corners. So the receivers of one packet may say different
  *   things, each of them rightly: of a newer drone an older receiver, which does not know 104, says the sensor height by 75 or 15, where a
  *   newer one says it by 104, with another number and, against 15, another kind. Whoever compares heights of several receivers looks at the
- *   kind first.
+ *   kind first. An item that the sender withdraws is known to be so by the newer one alone: the older one carries an empty value and hands it on.
  */
 #ifndef OYSTERKNOLL_H
 #define OYSTERKNOLL_H
@@ -105,7 +117,7 @@ extern "C" {
 #endif
 
 /* The version of what this header and an archive say to each other: an archive that goes with it answers this number to oyk_version. */
-#define OYK_VERSION 3
+#define OYK_VERSION 4
 
 /* The words of a table that oyk_read fills: four for each of at most 128 rows. */
 #define OYK_TABLE_WORDS 512
@@ -137,8 +149,8 @@ extern "C" {
 #define OYK_REFUSED_FIRST_NOT_TIME_STAMP 9 /* first item absent or not tag 2; its start (packet length if absent) and tag */
 #define OYK_REFUSED_LAST_NOT_CHECKSUM 10  /* last item not tag 1 of length 2; its start and tag */
 #define OYK_REFUSED_CHECKSUM_DIFFERS 11   /* checksum differs; its value's place, tag 1 */
-#define OYK_REFUSED_LENGTH_NOT_ALLOWED 12 /* known item of wrong length; its start and tag */
-#define OYK_REFUSED_KNOWN_TAG_TWICE 13    /* known tag a second time; the second one's start and tag */
+#define OYK_REFUSED_LENGTH_NOT_ALLOWED 12 /* known item of wrong length (0 is wrong at 1, 2 and 65 alone); its start and tag */
+#define OYK_REFUSED_KNOWN_TAG_TWICE 13    /* known tag a second time, withdrawn or not; the second one's start and tag */
 #define OYK_REFUSED_CODE_NOT_ALLOWED 14   /* item 34 or 63 outside its codes, or an extended height beyond 40,000 m; its start and tag */
 #define OYK_REFUSED_VERSION_MISSING 15    /* no item 65 */
 
@@ -154,10 +166,11 @@ extern "C" {
 #define OYK_REFUSED_VALUE_OUT_OF_RANGE 21 /* value outside the range */
 
 /* Kinds of a row (oyk_row, and the second word of each row in a table). */
-#define OYK_READING 1 /* a number, by its stored code */
-#define OYK_MARK 2    /* the mark that stands in place of a number */
-#define OYK_TEXT 3    /* a text */
-#define OYK_CARRIED 4 /* an item that the receiver does not know */
+#define OYK_READING 1   /* a number, by its stored code */
+#define OYK_MARK 2      /* the mark that stands in place of a number */
+#define OYK_TEXT 3      /* a text */
+#define OYK_CARRIED 4   /* an item that the receiver does not know */
+#define OYK_WITHDRAWN 5 /* a known item without a value: the earlier one no longer holds */
 
 /* The kind that oyk_next gives where no item is left. */
 #define OYK_NO_MORE 0
@@ -177,7 +190,7 @@ extern "C" {
 #define OYK_NOT_LISTED 0      /* the catalogue has no item of this tag: every receiver carries it */
 #define OYK_STORED_UNSIGNED 1 /* an unsigned number */
 #define OYK_STORED_SIGNED 2   /* a number in two's complement */
-#define OYK_STORED_TEXT 3     /* a text of 1 to 127 bytes, which may be any */
+#define OYK_STORED_TEXT 3     /* a text of 1 to 127 bytes, which may be any; one of 0 bytes is withdrawn */
 #define OYK_STORED_EXTENDED 4 /* an extended height: an unsigned number of 2, 3 or 4 bytes, whose scale goes by its length */
 
 /* Units (oyk_item): what a value in house units counts. A person's unit is 10^7 of them for degrees, and else 1,000. */
@@ -276,13 +289,13 @@ typedef struct oyk_refusal {
 /* A row: an item as the receiver sees it. */
 typedef struct oyk_row {
     uint64_t tag;
-    uint64_t kind; /* OYK_READING, OYK_MARK, OYK_TEXT or OYK_CARRIED */
-    uint64_t code; /* the stored code of a reading or a mark; 0 for text and carried */
-    size_t place;  /* where the value's bytes stand in the packet or the buffer */
-    size_t length; /* how many they are: what oyk_to_house is told */
+    uint64_t kind; /* OYK_READING, OYK_MARK, OYK_TEXT, OYK_CARRIED or OYK_WITHDRAWN */
+    uint64_t code; /* the stored code of a reading or a mark; 0 for the other kinds */
+    size_t place;  /* where the value's bytes stand in the packet or the buffer, or would stand if it were not withdrawn */
+    size_t length; /* how many they are: what oyk_to_house is told; 0 where it is withdrawn */
 } oyk_row;
 
-/* Which known items are there (see above). No bit is set where none is. */
+/* Which known items are there, or which of them are withdrawn (see above). No bit is set where none is. */
 typedef struct oyk_present {
     uint64_t low;  /* tag t from 0 to 63 is bit t */
     uint64_t high; /* tag t from 64 to 127 is bit t - 64 */
@@ -292,11 +305,15 @@ typedef struct oyk_present {
  * Answers. The refusal comes first in each that can be one; if its number is not 0, all that follows it is 0.
  */
 
-/* How many items or rows there are, and which known ones (oyk_check, oyk_read). */
+/*
+ * How many items or rows there are, which known ones, and which of these are withdrawn (oyk_check, oyk_read). A tag has a value where its bit is
+ * set in present and not in withdrawn; what is withdrawn is always present.
+ */
 typedef struct oyk_count_answer {
     oyk_refusal refusal;
     size_t count;
     oyk_present present;
+    oyk_present withdrawn;
 } oyk_count_answer;
 
 /* How many bytes were written at the front of the output (oyk_write, oyk_write_with, oyk_forward, oyk_list). */
@@ -363,18 +380,19 @@ typedef struct oyk_item_answer {
 /* The version that the archive was made for: OYK_VERSION, if it goes with this header. */
 uint64_t oyk_version(void);
 
-/* Judges a packet. count: the number of its items; present: which known ones are there. Never refusal 2. */
+/* Judges a packet. count: the number of its items; present: which known ones are there; withdrawn: which of these. Never refusal 2. */
 oyk_count_answer oyk_check(const uint8_t *packet, size_t packet_len, uint64_t low, uint64_t high);
 
 /*
- * Reads a packet into a table of at least 512 words. count: the number of rows; present: which known items are there. The table is filled row
- * after row (see Rows above), and the rest of its first 512 words is set to 0; words beyond stay.
+ * Reads a packet into a table of at least 512 words. count: the number of rows; present: which known items are there; withdrawn: which of
+ * these. The table is filled row after row (see Rows above), and the rest of its first 512 words is set to 0; words beyond stay.
  */
 oyk_count_answer oyk_read(const uint8_t *packet, size_t packet_len, uint64_t low, uint64_t high, uint64_t *table, size_t table_len);
 
 /*
  * Whether an item is there: 1 where the bit of the tag is set in the two words, else 0. Any tag may be asked for; from 128 on there is none.
- * Nothing but the words is looked at: neither packet nor table has to be kept.
+ * Nothing but the words is looked at: neither packet nor table has to be kept. Of the words in withdrawn it says whether the item is withdrawn,
+ * and of those in present without them whether it has a value.
  */
 uint64_t oyk_has(uint64_t present_low, uint64_t present_high, uint64_t tag);
 
@@ -413,8 +431,9 @@ oyk_size_answer oyk_write(const uint64_t *words, size_t words_len, size_t count,
 
 /*
  * Writes as oyk_write does, handed beside the rows the words that say which items are there. They have to be just those that a scan of the
- * rows gives, which is what oyk_read answered if the rows are as it left them: others, a bit too many like one too few, are refused by 22. That
- * comes straight after 17, so before a packet that is too long. Of a known tag that stands twice the scan sets the bit once.
+ * rows gives, which is what oyk_read answered as present if the rows are as it left them: others, a bit too many like one too few, are refused
+ * by 22. That comes straight after 17, so before a packet that is too long. Of a known tag that stands twice the scan sets the bit once, and a
+ * withdrawn row sets it like another.
  */
 oyk_size_answer oyk_write_with(const uint64_t *words, size_t words_len, size_t count, const uint8_t *buffer, size_t buffer_len,
                                uint64_t low, uint64_t high, uint64_t present_low, uint64_t present_high, uint8_t *out, size_t out_len);
@@ -440,7 +459,8 @@ oyk_code_answer oyk_to_code(uint64_t tag, size_t length, int64_t value);
 
 /*
  * How high the sensor is: by item 104, over the ellipsoid, if the packet has it, else by item 75, over the ellipsoid too, else by item 15, over
- * mean sea level. Never refusal 2. Items 103 and 105 are no heights of the sensor and are not asked.
+ * mean sea level. An item that is withdrawn is as if it were not there. Never refusal 2. Items 103 and 105 are no heights of the sensor and are
+ * not asked.
  */
 oyk_height_answer oyk_sensor_height(const uint8_t *packet, size_t packet_len, uint64_t low, uint64_t high);
 
@@ -451,7 +471,7 @@ oyk_height_answer oyk_frame_centre_height(const uint8_t *packet, size_t packet_l
  * Where corner k of the picture is on the ground: 1 is the upper left one, 2 the upper right, 3 the lower right, 4 the lower left; any other
  * k is missing.
  * By items 80 + 2k and 81 + 2k if both are there, else by the frame centre (23 and 24) plus the offsets 24 + 2k and 25 + 2k if all four
- * are there. A mark in any row used is off the Earth. Never refusal 2.
+ * are there. A mark in any row used is off the Earth; an item that is withdrawn is as if it were not there. Never refusal 2.
  * A longitude of 180 degrees or more comes back by one turn of 360 degrees, and so does one below -180: the 180th meridian is -1800000000. A
  * latitude above 90 or below -90 degrees is off the Earth; 90 itself is the pole. Rows, conversions and listing say what was sent.
  */
@@ -462,9 +482,9 @@ oyk_item_answer oyk_item(uint64_t tag);
 
 /*
  * Lists a packet as text at the front of the output, the whole catalogue being known. size: the number of bytes.
- * A head line, then a line an item: the value's place, tag, kind and value, parted by tabs. Every line ends with a newline byte; no
- * zero byte follows the last. A packet that is not accepted is refused, and no line is written; an output shorter than the listing is
- * refused by 18.
+ * A head line, then a line an item: the value's place, tag, kind and value, parted by tabs; of a withdrawn item nothing follows the last tab.
+ * Every line ends with a newline byte; no zero byte follows the last. A packet that is not accepted is refused, and no line is written; an
+ * output shorter than the listing is refused by 18.
  */
 oyk_size_answer oyk_list(const uint8_t *packet, size_t packet_len, uint8_t *out, size_t out_len);
 

@@ -24,6 +24,8 @@ pub mod twin_answers;
 pub mod twin_present;
 #[path = "../../rust/tests/differential/twin_records.rs"]
 pub mod twin_records;
+#[path = "../../rust/tests/differential/twin_withdrawn.rs"]
+pub mod twin_withdrawn;
 #[path = "../../rust/tests/differential/twin_write.rs"]
 pub mod twin_write;
 #[path = "../../rust/tests/differential/wire.rs"]

@@ -27,13 +27,19 @@ fn among(items: &[u8]) -> Vec<u8> {
     with_checksum(framed(&KEY, &[&FIRST, items, &LAST].concat(), 0))
 }
 
-/// Each item is its tag and its value; where the catalogue does not fix a length, one byte of it stands between them.
+/// Each item is its tag and its value; where the catalogue does not fix a length, one byte of it stands between them. An empty item, by which
+/// a known one is withdrawn, is 0 and its tag.
 fn items(mut input: Input) -> Vec<u8> {
     let mut items = Vec::new();
     while !input.is_empty() {
-        let tag = u64::from(input.byte());
-        let fixed = form(tag).and_then(Form::bytes);
-        let length = fixed.unwrap_or_else(|| usize::from(input.byte()));
+        let first = input.byte();
+        let is_empty = first == 0;
+        let tag = u64::from(if is_empty { input.byte() } else { first });
+        let length = match form(tag).and_then(Form::bytes) {
+            _ if is_empty => 0,
+            Some(fixed) => fixed,
+            None => usize::from(input.byte()),
+        };
         put_tag(&mut items, tag);
         put_length(&mut items, length, 0);
         items.extend((0..length).map(|_| input.byte()));

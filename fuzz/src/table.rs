@@ -2,7 +2,7 @@
 
 use crate::input::Input;
 use crate::packet::packet;
-use crate::twin::{Row, Twin, CARRIED, MARK, READING, TEXT};
+use crate::twin::{Row, Twin, CARRIED, MARK, READING, TEXT, WITHDRAWN};
 use crate::twin_records::Record;
 use crate::twin_write::Rows;
 
@@ -47,7 +47,7 @@ pub fn handed(lent: Rows, number: usize) -> u128 {
     }
 }
 
-/// A record for every row in the words. What no record can be is the next best: a kind is taken modulo 4, and a part beyond the buffer is
+/// A record for every row in the words. What no record can be is the next best: a kind is taken modulo 5, and a part beyond the buffer is
 /// empty.
 pub fn records<'a>(words: &[u64], buffer: &'a [u8]) -> Vec<Record<'a>> {
     let rows = words.chunks_exact(4).map(Row::from_words);
@@ -60,7 +60,7 @@ fn record<'a>(row: &Row, buffer: &'a [u8]) -> Record<'a> {
         .and_then(|rest| rest.get(..row.length));
     Record {
         tag: row.tag,
-        kind: [CARRIED, READING, MARK, TEXT][(row.kind % 4) as usize],
+        kind: [WITHDRAWN, READING, MARK, TEXT, CARRIED][(row.kind % 5) as usize],
         code: row.code,
         length: row.length,
         value: part.unwrap_or_default(),

@@ -8,7 +8,7 @@ pub use tables::compare_writers;
 
 use crate::packets::{self, Item};
 use crate::rival::{self, ground};
-use oysterknoll::{Corner, Knowing, Present, Refusal, LONGEST_PACKET, TABLE_WORDS};
+use oysterknoll::{Accepted, Corner, Knowing, Present, Refusal, LONGEST_PACKET, TABLE_WORDS};
 
 /// Numbers that look random, the same in every run.
 struct Dice(u64);
@@ -63,9 +63,15 @@ fn compare(packet: &[u8], lent: &Lent) -> Result<usize, String> {
     let outs = [(); 2].map(|()| vec![0xA5; lent.out_bytes]);
     let ([mut table, mut rival_table], [mut out, mut rival_out]) = (tables, outs);
     let check = oysterknoll::check(packet, knowing);
-    let check = check.map(|accepted| in_words(accepted.count, accepted.present));
+    let check = check.map(in_words);
     let read = oysterknoll::read(packet, knowing, &mut table);
-    let read = read.map(|rows| in_words(rows.len(), rows.present()));
+    let read = read.map(|rows| {
+        in_words(Accepted {
+            count: rows.len(),
+            present: rows.present(),
+            withdrawn: rows.withdrawn(),
+        })
+    });
     let forward = oysterknoll::forward(packet, knowing, &mut out).map_err(in_numbers);
     let same_corner = |k| corner(packet, knowing, k) == rival::corner(packet, low, high, k);
     let agree = check.map_err(in_numbers) == rival::check(packet, low, high)
@@ -85,9 +91,12 @@ fn compare(packet: &[u8], lent: &Lent) -> Result<usize, String> {
 }
 
 /// What the library has of an accepted packet as the rival gives it.
-fn in_words(count: usize, present: Present) -> rival::Accepted {
-    let present = present.words().into();
-    rival::Accepted { count, present }
+fn in_words(accepted: Accepted) -> rival::Accepted {
+    rival::Accepted {
+        count: accepted.count,
+        present: accepted.present.words().into(),
+        withdrawn: accepted.withdrawn.words().into(),
+    }
 }
 
 /// Whether both answer alike which items are there.
@@ -156,7 +165,7 @@ fn damaged_packet(dice: &mut Dice) -> Vec<u8> {
 
 fn damage_items(items: &mut Vec<Item>, dice: &mut Dice) {
     let (n, m) = (dice.throw(items.len()), dice.throw(items.len()));
-    match dice.throw(12) {
+    match dice.throw(14) {
         0 => drop(items.remove(n)),
         1 => items.insert(m, items[n].clone()),
         2 => items.swap(n, m),
@@ -175,6 +184,7 @@ fn damage_items(items: &mut Vec<Item>, dice: &mut Dice) {
             let length = items.len();
             mark(&mut items[length - 1 - dice.throw(4)].1);
         }
+        11 | 12 => items[n].1.clear(),
         _ => items.extend((0..dice.throw(60)).map(|k| (128 + k as u64, vec![k as u8; 200]))),
     }
 }

@@ -8,11 +8,12 @@ pub use ground::corner;
 pub use scale::{to_code, to_house};
 pub use writing::{write, write_with};
 
-/// What an accepted packet has: how many items, and by the bits of two words which known ones.
+/// What an accepted packet has: how many items, and by the bits of two words each which known ones, and which withdrawn ones.
 #[derive(Clone, Copy, PartialEq, Eq, Debug)]
 pub struct Accepted {
     pub count: usize,
     pub present: [u64; 2],
+    pub withdrawn: [u64; 2],
 }
 
 /// Why a packet is refused, by number.
@@ -34,8 +35,9 @@ const NUMBER: u8 = 1;
 const NUMBER_OR_MARK: u8 = 2;
 const TEXT: u8 = 3;
 const CARRIED: u8 = 4;
-/// A number of 2, 3 or 4 bytes.
-const EXTENDED: u8 = 5;
+const WITHDRAWN: u8 = 5;
+/// A number of 2, 3 or 4 bytes. This is no kind of a row.
+const EXTENDED: u8 = 6;
 
 /// The highest value of an extended height, of which one of fewer bytes has the first.
 const HIGHEST: [u8; 4] = [0x4F, 0xE2, 0, 0];
@@ -239,12 +241,18 @@ fn body(packet: &[u8]) -> Result<usize, Refusal> {
     }
 }
 
-/// The known tags, those of them not yet met, and the first known item that is at fault. The sets have a bit for every byte, so
-/// that a tag of one byte needs no test of its bounds.
+/// The known tags, those of them not yet met, those withdrawn, and the first known item that is at fault. The sets have a bit for every
+/// byte, so that a tag of one byte needs no test of its bounds.
 struct Known {
     knowing: [u64; 4],
     awaited: [u64; 4],
+    withdrawn: [u64; 2],
     fault: Option<Refusal>,
+}
+
+/// Whether an item of this tag may be without a value.
+fn may_be_withdrawn(tag: u64) -> bool {
+    !matches!(tag, 1 | 2 | 65)
 }
 
 fn holds(set: &[u64; 4], tag: u64) -> bool {
@@ -283,7 +291,8 @@ impl Known {
         }
         let rule = CATALOGUE[item.tag as usize];
         let is_fresh = holds(&self.awaited, item.tag);
-        self.awaited[(item.tag / 64) as usize] &= !(1 << (item.tag % 64));
+        let (word, bit) = ((item.tag / 64) as usize, 1 << (item.tag % 64));
+        self.awaited[word] &= !bit;
         let number = match item.length.checked_sub(rule.least.into()) {
             Some(more) if more <= rule.span.into() => match is_fresh {
                 true if is_within(rule, &packet[item.place..item.place + item.length]) => {
@@ -292,6 +301,13 @@ impl Known {
                 true => 14,
                 false => 13,
             },
+            _ if item.length == 0 && may_be_withdrawn(item.tag) => {
+                self.withdrawn[word] |= bit;
+                if is_fresh {
+                    return Ok(item);
+                }
+                13
+            }
             _ => 12,
         };
         self.fault.get_or_insert(refusal(number, start, item.tag));
@@ -319,6 +335,7 @@ fn walk(
     let mut known = Known {
         knowing: [low, high, 0, 0],
         awaited: [low, high, 0, 0],
+        withdrawn: [0; 2],
         fault: None,
     };
     let (mut count, mut place, mut last) = (0, body, body);
@@ -343,6 +360,7 @@ fn walk(
         None => Ok(Accepted {
             count,
             present: [low ^ low_left, high ^ high_left],
+            withdrawn: known.withdrawn,
         }),
     }
 }
@@ -407,12 +425,15 @@ fn content(packet: &[u8], knowing: &[u64; 2], tag: u32, span: u32) -> (u8, u64) 
     if tag > 127 || knowing[(tag >> 6) as usize] >> (tag & 63) & 1 == 0 {
         return (CARRIED, 0);
     }
+    let (place, length) = ((span >> 16) as usize, (span & 0xFFFF) as usize);
+    if length == 0 {
+        return (WITHDRAWN, 0);
+    }
     let form = CATALOGUE[tag as usize].form;
     if form == TEXT {
         return (TEXT, 0);
     }
     // The key stands before every value, so the eight bytes that end with a number are always there.
-    let (place, length) = ((span >> 16) as usize, (span & 0xFFFF) as usize);
     let end = place + length;
     let bytes = packet[end - 8..end].try_into().unwrap_or_default();
     let shift = 64 - 8 * length as u32;

@@ -48,7 +48,7 @@ pub struct Item {
     pub marked: bool,
 }
 
-/// How an item is stored.
+/// How the value of an item is stored. One that is withdrawn has none, and length 0.
 ///
 /// ```
 /// use oysterknoll::catalogue::{self, Stored};

@@ -48,7 +48,7 @@ pub enum Height {
     OverEllipsoid(EllipsoidHeight),
     /// Over mean sea level.
     OverSeaLevel(SeaLevelHeight),
-    /// The packet has none that the receiver knows.
+    /// The packet has none that the receiver knows and that is not withdrawn.
     Missing,
 }
 
@@ -93,7 +93,7 @@ pub enum Corner {
     At(Point),
     /// The drone said that this corner looks above the horizon, or it is past a pole: there is no pin to draw.
     OffTheEarth,
-    /// The packet has none that the receiver knows.
+    /// The packet has none that the receiver knows and that is not withdrawn.
     Missing,
 }
 
@@ -101,7 +101,7 @@ pub enum Corner {
 /// over mean sea level.
 ///
 /// Only items that the receiver knows count: of a newer drone's packet an older receiver answers by 75 or 15 where a newer one answers by
-/// 104, with another number or even another kind.
+/// 104, with another number or even another kind. An item that is withdrawn is as if it were not there.
 ///
 /// # Errors
 ///
@@ -122,6 +122,11 @@ pub enum Corner {
 /// assert_eq!(height, Height::OverEllipsoid(EllipsoidHeight(689_935)));
 /// let height = sensor_height(packet, older.without(75))?;
 /// assert_eq!(height, Height::OverSeaLevel(SeaLevelHeight(641_958)));
+///
+/// // A drone that has withdrawn item 104: item 75 decides.
+/// let fleet = include_bytes!("../../samples/fleet.klv");
+/// let height = sensor_height(fleet, Knowing::ALL)?;
+/// assert_eq!(height, Height::OverEllipsoid(EllipsoidHeight(702_992)));
 /// # Ok::<(), oysterknoll::Refusal>(())
 /// ```
 pub fn sensor_height(packet: &[u8], knowing: Knowing) -> Result<Height, Refusal> {
@@ -129,6 +134,8 @@ pub fn sensor_height(packet: &[u8], knowing: Knowing) -> Result<Height, Refusal>
 }
 
 /// How high the frame centre is: by item 78, over the ellipsoid, if the packet has it, else by item 25, over mean sea level.
+///
+/// An item that is withdrawn is as if it were not there.
 ///
 /// # Errors
 ///
@@ -154,7 +161,7 @@ pub fn frame_centre_height(packet: &[u8], knowing: Knowing) -> Result<Height, Re
 /// Where corner k of the picture is, k from 1 to 4 (upper left, upper right, lower right, lower left). Any other k is missing.
 ///
 /// By the full items 80 + 2k and 81 + 2k if both are there, else by the frame centre (23 and 24) plus the offsets 24 + 2k and
-/// 25 + 2k if all four are there. A mark in any row used is off the Earth.
+/// 25 + 2k if all four are there. A mark in any row used is off the Earth; an item that is withdrawn is as if it were not there.
 ///
 /// A longitude of 180 degrees or more comes back by one turn of 360 degrees, and so does one below -180; the 180th meridian is -180. A
 /// latitude above 90 or below -90 degrees is off the Earth. Rows, conversions and listing say what was sent.
@@ -181,6 +188,13 @@ pub fn frame_centre_height(packet: &[u8], knowing: Knowing) -> Result<Height, Re
 /// assert_eq!(
 ///     corner(island, Knowing::ALL, 2)?,
 ///     Corner::At(Point { latitude: -167_950_009, longitude: -1_799_699_989 }),
+/// );
+///
+/// // A corner whose full latitude is withdrawn: its offsets decide.
+/// let fleet = include_bytes!("../../samples/fleet.klv");
+/// assert_eq!(
+///     corner(fleet, Knowing::ALL, 3)?,
+///     Corner::At(Point { latitude: 469_032_904, longitude: 83_066_053 }),
 /// );
 /// # Ok::<(), oysterknoll::Refusal>(())
 /// ```

@@ -32,11 +32,22 @@ pub struct Items<'p> {
 /// # Example
 ///
 /// ```
-/// use oysterknoll::{items, Knowing};
+/// use oysterknoll::{items, Content, Knowing, Row};
 ///
 /// let packet = include_bytes!("../../samples/smallest.klv");
 /// let tags: Vec<u64> = items(packet, Knowing::ALL)?.map(|row| row.tag).collect();
 /// assert_eq!(tags, [2, 65, 1]);
+///
+/// // A packet that withdraws the temperature (39): its item has length 0.
+/// let packet = [
+///     0x06, 0x0e, 0x2b, 0x34, 0x02, 0x0b, 0x01, 0x01, 0x0e, 0x01, 0x03, 0x01, 0x01, 0x00, 0x00, 0x00, // key
+///     19, // bytes to come
+///     2, 8, 0, 0, 0, 0, 0, 0, 0, 1, // time stamp
+///     65, 1, 17, // version
+///     39, 0, // temperature
+///     1, 2, 0x8b, 0xa6, // checksum
+/// ];
+/// assert_eq!(items(&packet, Knowing::ALL)?.nth(2), Some(Row { tag: 39, content: Content::Withdrawn }));
 /// # Ok::<(), oysterknoll::Refusal>(())
 /// ```
 pub fn items(packet: &[u8], knowing: Knowing) -> Result<Items<'_>, Refusal> {

@@ -69,9 +69,9 @@ struct Readme;
 /// The version of what this crate and an archive say to each other: an archive that goes with the crate answers it to [`version`].
 ///
 /// ```
-/// assert_eq!(oysterknoll::VERSION, 3);
+/// assert_eq!(oysterknoll::VERSION, 4);
 /// ```
-pub const VERSION: u64 = 3;
+pub const VERSION: u64 = 4;
 
 /// The words of a table that [`read`] fills: four for each of at most 128 rows.
 ///
@@ -121,28 +121,57 @@ pub fn version() -> u64 {
 ///
 /// let packet = include_bytes!("../../samples/smallest.klv");
 /// let present = Present::from_words(0b110, 0b10); // 1, 2 and 65
-/// assert_eq!(check(packet, Knowing::ALL), Ok(Accepted { count: 3, present }));
+/// let withdrawn = Present::default();
+/// assert_eq!(check(packet, Knowing::ALL), Ok(Accepted { count: 3, present, withdrawn }));
 /// ```
 #[derive(Clone, Copy, Debug, PartialEq, Eq, Hash)]
 pub struct Accepted {
     /// How many items there are, those that the receiver does not know among them.
     pub count: usize,
-    /// Which of those that the receiver knows are there.
+    /// Which of those that the receiver knows are there, with a value or [withdrawn](Content::Withdrawn).
     pub present: Present,
+    /// Which of these are withdrawn.
+    pub withdrawn: Present,
+}
+
+impl Accepted {
+    /// Whether an item of this tag is there with a value: it is present and not withdrawn. Of the tags from 128 on none is.
+    ///
+    /// This is what a planner's screen asks, at every picture: an item that the sender has withdrawn is present, though there is nothing to
+    /// draw of it, and heights and corners treat it as absent. A mark is a value.
+    ///
+    /// ```
+    /// use oysterknoll::{check, Knowing};
+    ///
+    /// let packet = include_bytes!("../../samples/fleet.klv");
+    /// let accepted = check(packet, Knowing::ALL)?;
+    /// assert!(accepted.has_value(23) && accepted.has_value(24)); // the frame centre
+    /// assert!(!accepted.has_value(38)); // no density altitude
+    ///
+    /// // The sender has withdrawn the mission.
+    /// assert!(accepted.present.has(3) && accepted.withdrawn.has(3));
+    /// assert!(!accepted.has_value(3));
+    /// # Ok::<(), oysterknoll::Refusal>(())
+    /// ```
+    pub fn has_value(&self, tag: u64) -> bool {
+        self.present.has(tag) && !self.withdrawn.has(tag)
+    }
 }
 
 impl raw::CountAnswer {
     /// What the packet has where nothing is refused, else the refusal.
     pub(crate) fn accepted(self) -> Result<Accepted, Refusal> {
-        let raw::Present { low, high } = self.present;
+        let [present, withdrawn] = [self.present, self.withdrawn]
+            .map(|raw::Present { low, high }| Present::from_words(low, high));
         self.refusal.or(Accepted {
             count: self.count,
-            present: Present::from_words(low, high),
+            present,
+            withdrawn,
         })
     }
 }
 
-/// Judges a packet, and answers how many items it has, and which of those that the receiver knows.
+/// Judges a packet, and answers how many items it has, which of those that the receiver knows, and which of these are withdrawn.
 ///
 /// # Errors
 ///
@@ -162,7 +191,7 @@ impl raw::CountAnswer {
 /// ];
 /// let accepted = check(&packet, Knowing::ALL)?;
 /// assert_eq!(accepted.count, 3);
-/// assert!(accepted.present.has(65) && !accepted.present.has(23)); // a version, and no frame centre
+/// assert!(accepted.has_value(65) && !accepted.has_value(23)); // a version, and no frame centre
 /// # Ok::<(), oysterknoll::Refusal>(())
 /// ```
 pub fn check(packet: &[u8], knowing: Knowing) -> Result<Accepted, Refusal> {
@@ -250,8 +279,8 @@ pub fn to_code(tag: u64, length: usize, value: i64) -> Result<u64, Refusal> {
 
 /// Lists a packet as text at the front of `out`, one line an item, and answers the number of bytes.
 ///
-/// The whole catalogue is known. Fields are parted by tabs, and every line ends with a newline byte. A refusal
-/// changes nothing.
+/// The whole catalogue is known. Fields are parted by tabs, and every line ends with a newline byte. Of a withdrawn item nothing follows the
+/// last tab. A refusal changes nothing.
 ///
 /// # Errors
 ///

@@ -2,10 +2,13 @@ use crate::raw;
 use core::fmt;
 use core::iter::FusedIterator;
 
-/// Which items of a packet are there, as two words: bit t of the pair is set where a row of tag t is not carried.
+/// Which items of a packet are there, as two words: bit t of the pair is set where a row of tag t is not carried. A second pair says
+/// which of them are withdrawn.
 ///
-/// [`check`](crate::check) answers them, and [`Rows`](crate::Rows) keeps them. What is asked is answered from the words alone, as a
+/// [`check`](crate::check) answers both, and [`Rows`](crate::Rows) keeps them. What is asked is answered from the words alone, as a
 /// scan of all rows would answer it: a screen that asks at every picture whether there is a frame centre needs neither table nor packet.
+/// An item that the sender has [withdrawn](crate::Content::Withdrawn) is there in the first pair too, so such a screen asks
+/// [`Accepted::has_value`](crate::Accepted::has_value).
 ///
 /// ```
 /// use oysterknoll::{check, Knowing};
@@ -71,7 +74,8 @@ impl Present {
         raw::has(self, tag) != 0
     }
 
-    /// How many items are there: the number of set bits, which is that of the rows that are not carried.
+    /// How many items are there: the number of set bits, which is that of the rows that are not carried. Of the words for what is withdrawn
+    /// it is that of the withdrawn rows.
     ///
     /// ```
     /// use oysterknoll::{read, Content, Knowing, TABLE_WORDS};

@@ -36,6 +36,7 @@ pub struct CountAnswer {
     pub refusal: Refusal,
     pub count: usize,
     pub present: Present,
+    pub withdrawn: Present,
 }
 
 #[repr(C)]
@@ -104,6 +105,7 @@ pub const READING: u64 = 1;
 pub const MARK: u64 = 2;
 pub const TEXT: u64 = 3;
 pub const CARRIED: u64 = 4;
+pub const WITHDRAWN: u64 = 5;
 
 // The kinds of a height that is not missing.
 pub const OVER_ELLIPSOID: u64 = 1;

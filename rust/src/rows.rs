@@ -1,5 +1,5 @@
 use crate::raw;
-use crate::{to_house, Knowing, Present, Reason, Refusal};
+use crate::{to_house, Accepted, Knowing, Present, Reason, Refusal};
 use core::fmt;
 use core::iter::FusedIterator;
 use core::ops::Range;
@@ -7,7 +7,7 @@ use core::ops::Range;
 /// How many words a row has in a table.
 pub(crate) const WORDS_A_ROW: usize = 4;
 
-/// One row: its tag beside one of four kinds of content.
+/// One row: its tag beside one of five kinds of content.
 ///
 /// ```
 /// use oysterknoll::{items, Content, Knowing, Row};
@@ -42,7 +42,7 @@ impl<'a> Row<'a> {
     pub fn value(&self) -> Option<i64> {
         match self.content {
             Content::Reading { code, length } => to_house(self.tag, length, code).ok(),
-            Content::Mark | Content::Text(_) | Content::Carried(_) => None,
+            Content::Mark | Content::Text(_) | Content::Carried(_) | Content::Withdrawn => None,
         }
     }
 
@@ -58,6 +58,7 @@ impl<'a> Row<'a> {
             raw::MARK => Content::Mark,
             raw::TEXT => Content::Text(part()?),
             raw::CARRIED => Content::Carried(part()?),
+            raw::WITHDRAWN => Content::Withdrawn,
             _ => return None,
         };
         let tag = row.tag;
@@ -79,12 +80,14 @@ impl<'a> Row<'a> {
 ///         Content::Mark => format!("item {}: marked", row.tag),
 ///         Content::Text(bytes) => format!("item {}: {}", row.tag, String::from_utf8_lossy(bytes)),
 ///         Content::Carried(bytes) => format!("item {}: {} bytes, not known here", row.tag, bytes.len()),
+///         Content::Withdrawn => format!("item {}: the earlier value no longer holds", row.tag),
 ///     }
 /// }
 ///
 /// let temperature = Content::Reading { code: 0x80, length: 1 };
 /// assert_eq!(say(Row { tag: 39, content: temperature }), "item 39: -128000");
 /// assert_eq!(say(Row { tag: 11, content: Content::Text(b"EO") }), "item 11: EO");
+/// assert_eq!(say(Row { tag: 13, content: Content::Withdrawn }), "item 13: the earlier value no longer holds");
 /// ```
 #[derive(Clone, Copy, Debug, PartialEq, Eq, Hash)]
 pub enum Content<'a> {
@@ -101,6 +104,9 @@ pub enum Content<'a> {
     Text(&'a [u8]),
     /// The bytes of an item that the receiver does not know.
     Carried(&'a [u8]),
+    /// Nothing: the sender gives a known item, any but 1, 2 and 65, with length 0 to say that its earlier value no longer holds. Heights and
+    /// corners treat it as absent.
+    Withdrawn,
 }
 
 /// The rows of a packet that was read, by [`read`], in the words of the lent table.
@@ -136,7 +142,7 @@ pub struct Rows<'p, 't> {
     packet: &'p [u8],
     knowing: Knowing,
     words: &'t [u64],
-    present: Present,
+    accepted: Accepted,
 }
 
 /// Reads a packet into the lent table, which has at least [`TABLE_WORDS`](crate::TABLE_WORDS) words.
@@ -176,7 +182,7 @@ pub fn read<'p, 't>(
         packet,
         knowing,
         words,
-        present: accepted.present,
+        accepted,
     })
 }
 
@@ -211,7 +217,7 @@ impl<'p, 't> Rows<'p, 't> {
         self.words.is_empty()
     }
 
-    /// Which items are there, without a scan of the rows.
+    /// Which items are there, withdrawn ones among them, without a scan of the rows.
     ///
     /// ```
     /// use oysterknoll::{read, Knowing, TABLE_WORDS};
@@ -223,7 +229,41 @@ impl<'p, 't> Rows<'p, 't> {
     /// # Ok::<(), oysterknoll::Refusal>(())
     /// ```
     pub const fn present(&self) -> Present {
-        self.present
+        self.accepted.present
+    }
+
+    /// Which of the items that are there are withdrawn, without a scan of the rows.
+    ///
+    /// ```
+    /// use oysterknoll::{read, Knowing, TABLE_WORDS};
+    ///
+    /// let packet = include_bytes!("../../samples/fleet.klv");
+    /// let mut table = [0; TABLE_WORDS];
+    /// let rows = read(packet, Knowing::ALL, &mut table)?;
+    /// assert!(rows.withdrawn().tags().eq([3, 21, 34, 63, 78, 82, 83, 86, 103, 104]));
+    /// assert!(rows.withdrawn().tags().all(|tag| rows.present().has(tag)));
+    /// # Ok::<(), oysterknoll::Refusal>(())
+    /// ```
+    pub const fn withdrawn(&self) -> Present {
+        self.accepted.withdrawn
+    }
+
+    /// Whether an item of this tag is there with a value: it is present and not withdrawn. This is what a planner's screen asks, as
+    /// [`Accepted::has_value`] has it.
+    ///
+    /// ```
+    /// use oysterknoll::{read, Knowing, TABLE_WORDS};
+    ///
+    /// let packet = include_bytes!("../../samples/fleet.klv");
+    /// let mut table = [0; TABLE_WORDS];
+    /// let rows = read(packet, Knowing::ALL, &mut table)?;
+    /// assert!(rows.has_value(23) && rows.has_value(24)); // there is a frame centre
+    /// assert!(rows.present().has(82) && !rows.has_value(82)); // a corner's latitude is withdrawn
+    /// assert!(!rows.has_value(38)); // no density altitude
+    /// # Ok::<(), oysterknoll::Refusal>(())
+    /// ```
+    pub fn has_value(&self, tag: u64) -> bool {
+        self.accepted.has_value(tag)
     }
 
     /// Row n, counted from 0.
@@ -340,7 +380,8 @@ impl ExactSizeIterator for RowsIter<'_, '_> {}
 
 impl FusedIterator for RowsIter<'_, '_> {}
 
-/// Takes row n out of the `count` rows in `words`. Text and carried rows give their part of the buffer.
+/// Takes row n out of the `count` rows in `words`. Text and carried rows give their part of the buffer; of a number and of a withdrawn row the
+/// place is not looked at.
 ///
 /// # Errors
 ///

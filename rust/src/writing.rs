@@ -4,8 +4,8 @@ use crate::{Content, Knowing, Present, Refusal, Row, LONGEST_PACKET, TABLE_WORDS
 
 /// Writes the `count` rows in `words` as a packet at the front of `out`, and answers its number of bytes.
 ///
-/// Text and carried rows point into `buffer`. The order of the rows is kept, lengths take their shortest form, and the checksum is
-/// worked out afresh. Bytes after the packet stay; a refusal changes nothing.
+/// Text and carried rows point into `buffer`; the place of any other row is not looked at. The order of the rows is kept, lengths take their
+/// shortest form, and the checksum is worked out afresh. Bytes after the packet stay; a refusal changes nothing.
 ///
 /// # Errors
 ///
@@ -38,7 +38,7 @@ pub fn write(
 /// Writes as [`write()`] does, handed beside the rows which items are there, and refuses what a scan of the rows would not give.
 ///
 /// What [`Rows::present`](crate::Rows::present) gives is right for its rows as they were read. A bit too many is as wrong as one too few; of
-/// a known tag that stands twice the scan sets the bit once.
+/// a known tag that stands twice the scan sets the bit once, and a withdrawn row sets it like another.
 ///
 /// # Errors
 ///
@@ -81,7 +81,7 @@ pub fn write_with(
 /// # Errors
 ///
 /// The writer's refusals: 1, 16, 17, 3, 9, 10, 12 to 15 and 18, in this order; the place is a row number. A value of 65,536 bytes or more
-/// has no row in words and is a bad row.
+/// has no row in words and is a bad row, and so is a text without a byte: a text that no longer holds is [`Content::Withdrawn`].
 ///
 /// # Example
 ///
@@ -99,6 +99,12 @@ pub fn write_with(
 /// let mut out = [0; LONGEST_PACKET];
 /// let size = write_rows(&rows, Knowing::ALL, &mut out)?;
 /// assert_eq!(check(&out[..size], Knowing::ALL)?.count, 6);
+///
+/// // Later the drone no longer knows where it is: the latitude is withdrawn, and its item has length 0.
+/// let lost = rows.map(|row| if row.tag == 13 { Row { content: Content::Withdrawn, ..row } } else { row });
+/// let shorter = write_rows(&lost, Knowing::ALL, &mut out)?;
+/// assert_eq!(shorter, size - 4);
+/// assert!(check(&out[..shorter], Knowing::ALL)?.withdrawn.has(13));
 /// # Ok::<(), oysterknoll::Refusal>(())
 /// ```
 pub fn write_rows(rows: &[Row<'_>], knowing: Knowing, out: &mut [u8]) -> Result<usize, Refusal> {
@@ -124,11 +130,11 @@ const MOST_ROWS: usize = TABLE_WORDS / WORDS_A_ROW;
 /// A kind that no receiver gives a tag: a row of it is bad.
 const NO_KIND: u64 = 0;
 
-/// The bytes of a text or carried value. A number has none, since its code stands in the row.
+/// The bytes of a text or carried value. A number has none, since its code stands in the row, and what is withdrawn has no value.
 fn value_of<'a>(row: &Row<'a>) -> &'a [u8] {
     match row.content {
         Content::Text(bytes) | Content::Carried(bytes) => bytes,
-        Content::Reading { .. } | Content::Mark => &[],
+        Content::Reading { .. } | Content::Mark | Content::Withdrawn => &[],
     }
 }
 
@@ -147,7 +153,7 @@ fn longest_value<'a>(rows: &[Row<'a>]) -> &'a [u8] {
     values.max_by_key(|value| value.len()).unwrap_or_default()
 }
 
-/// The four words of a row whose text or carried value stands at the place. A number has place 0, a mark the catalogue's length.
+/// The four words of a row whose text or carried value stands at the place. Any other has place 0, and a mark the catalogue's length.
 fn image_of(row: &Row<'_>, place: usize) -> [u64; WORDS_A_ROW] {
     let tag = row.tag;
     let (kind, code, place, length) = match row.content {
@@ -158,6 +164,7 @@ fn image_of(row: &Row<'_>, place: usize) -> [u64; WORDS_A_ROW] {
         }
         Content::Text(bytes) => (raw::TEXT, 0, place, bytes.len()),
         Content::Carried(bytes) => (raw::CARRIED, 0, place, bytes.len()),
+        Content::Withdrawn => (raw::WITHDRAWN, 0, 0, 0),
     };
     match u16::try_from(length) {
         Ok(length) => [tag, kind, code, (place as u64) << 16 | u64::from(length)],

@@ -8,6 +8,8 @@ mod present;
 mod values;
 #[path = "api/walk.rs"]
 mod walk;
+#[path = "api/withdrawn.rs"]
+mod withdrawn;
 #[path = "api/writing.rs"]
 mod writing;
 
@@ -73,6 +75,7 @@ fn accepted() -> Vec<Vec<u8>> {
         "offsets",
         "tower_extended",
         "island",
+        "fleet",
     ]
     .map(sample)
     .into()
@@ -80,7 +83,7 @@ fn accepted() -> Vec<Vec<u8>> {
 
 #[test]
 fn stored_packets_are_listed() {
-    for (name, least) in [("samples", 19), ("tests/list", 1)] {
+    for (name, least) in [("samples", 20), ("tests/list", 1)] {
         let packets = listed(name);
         assert!(packets.len() >= least, "{name}: packets are missing");
         for (packet, stored) in packets {
@@ -99,6 +102,7 @@ fn a_packet_gets_one_answer_from_every_reader() {
         let rows = read(&packet, Knowing::ALL, &mut table).map(|rows| Accepted {
             count: rows.len(),
             present: rows.present(),
+            withdrawn: rows.withdrawn(),
         });
         assert_eq!(rows, accepted);
         let walked = items(&packet, Knowing::ALL).map(Iterator::count);
@@ -221,7 +225,7 @@ fn contents<'p>(rows: Rows<'p, '_>, tag: u64) -> Vec<Content<'p>> {
 }
 
 #[test]
-fn rows_hold_the_four_kinds_of_content() {
+fn rows_hold_the_kinds_of_content() {
     use Content::{Carried, Mark, Reading, Text};
     let packet = sample("tower");
     let mut table = [0; TABLE_WORDS];

@@ -42,10 +42,16 @@ mod twin_answers;
 mod twin_present;
 #[path = "differential/twin_records.rs"]
 mod twin_records;
+#[path = "differential/twin_withdrawn.rs"]
+mod twin_withdrawn;
 #[path = "differential/twin_write.rs"]
 mod twin_write;
 #[path = "differential/wire.rs"]
 mod wire;
+#[path = "differential/withdrawn.rs"]
+mod withdrawn;
+#[path = "differential/withdrawn_ground.rs"]
+mod withdrawn_ground;
 #[path = "differential/worked.rs"]
 mod worked;
 
@@ -183,6 +189,14 @@ const WORDS_OF_WHAT_IS_WRITTEN: Law = Law {
     case: present::words_of_what_is_written,
 };
 
+const WITHDRAWN_AS_ABSENT: Law = Law {
+    number: 18,
+    name: "withdrawn as absent",
+    share: 20_000,
+    refusals: &[1, 3, 4, 5, 6, 7, 8, 9, 10, 11, 12, 13, 14, 15],
+    case: withdrawn_ground::as_absent,
+};
+
 /// The comparisons of product and twin in the gate.
 pub const TOTAL: u64 = total();
 
@@ -291,6 +305,11 @@ fn what_is_sent_on_has_the_original_words() {
 #[test]
 fn what_is_written_with_its_words_reads_back_with_them() {
     run(&WORDS_OF_WHAT_IS_WRITTEN);
+}
+
+#[test]
+fn what_is_withdrawn_is_as_absent() {
+    run(&WITHDRAWN_AS_ABSENT);
 }
 
 /// Every tag up to 300, then those that a shift or a cut takes for one of the catalogue's.

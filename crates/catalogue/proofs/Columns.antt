@@ -3,9 +3,9 @@
 use Prim.Native.Nat.{ℕ, _+_, _/_, _%_, _<_, _≤_}
 use native.Mathlib.Omega.{arith}
 use mathlib.Core.Path.{_≡_, refl, ap, sym, _∙_}
-use mathlib.Core.Bool.{Bool, true, false, not, cond, _&&_, _||_}
+use mathlib.Core.Bool.{Bool, true, false, not, cond, _&&_, _||_, or-true, Bool·beq}
 use lib.Bits.{bitAnd, and-mask}
-use lib.Dec.{leb, eqb}
+use lib.Dec.{ltb, leb, eqb}
 use lib.ListN.{getD}
 use borrow.Author.Tests.{eqb-true, leb-true, eq-eqb, ne-eqb, not-true, le-leb, lt-leb}
 use Rattle.base.proofs.Cases.{byBool, byLt, byEq, clash, never, unless}
@@ -13,8 +13,8 @@ use Rattle.base.specs.Every.{allBelow}
 use Rattle.base.proofs.Every.{all-below, both-left, both-right, both-true}
 use Rattle.catalogue.specs.Items.{groups, member, itemIn, itemOf}
 use Rattle.catalogue.specs.Extended.{isExtended, inReach}
-use Rattle.catalogue.specs.Shapes.{shapeBy, shapeOf, shapeAllows, codesLimited, codeAllowed}
-use Rattle.catalogue.specs.code.Column.{columnFrom, shapeColumn, widthColumn, shapeMask, shapeByte, widthByte, shapeFrom, shapeIn}
+use Rattle.catalogue.specs.Shapes.{shapeBy, shapeOf, shapeAllows, isListed, isNeeded, sizeAllowed, codesLimited, codeAllowed}
+use Rattle.catalogue.specs.code.Column.{columnFrom, shapeColumn, maskColumn, shapeMask, shapeByte, lengthMask, within, maskByte, shapeFrom, shapeIn}
 use Rattle.catalogue.specs.declared.Shape.{Shape}
 use Rattle.catalogue.specs.declared.Shape.the-variants.{Text, Number, Absent}
 use Rattle.catalogue.proofs.Laws.{item-beyond}
@@ -41,27 +41,27 @@ isFixed Absent = true
 -- the columns' bytes of each tag are those of the catalogue's shape
 inColumn : ℕ → Bool
 inColumn t =
-    (eqb (getD shapeColumn t 0) (shapeByte (shapeOf t)) && eqb (getD widthColumn t 0) (widthByte t))
+    (eqb (getD shapeColumn t 0) (shapeByte (shapeOf t)) && eqb (getD maskColumn t 0) (maskByte t))
     && (wide (shapeOf t) && (isExtended t || isFixed (shapeOf t)))
 
 all-in-column : allBelow inColumn 128 ≡ true
-unfolding groups member itemIn itemOf shapeOf isExtended columnFrom shapeColumn widthColumn inColumn wide width1248 isFixed
+unfolding groups member itemIn itemOf shapeOf isExtended columnFrom shapeColumn maskColumn inColumn wide width1248 isFixed
 all-in-column = refl
 
-bytes-in-columns : (t : ℕ) → t < 128 → eqb (getD shapeColumn t 0) (shapeByte (shapeOf t)) && eqb (getD widthColumn t 0) (widthByte t) ≡ true
+bytes-in-columns : (t : ℕ) → t < 128 → eqb (getD shapeColumn t 0) (shapeByte (shapeOf t)) && eqb (getD maskColumn t 0) (maskByte t) ≡ true
 unfolding inColumn
 bytes-in-columns t h = both-left _ _ (all-below inColumn 128 all-in-column t h)
 
 pub byte-in-column : (t : ℕ) → t < 128 → getD shapeColumn t 0 ≡ shapeByte (shapeOf t)
 byte-in-column t h = eqb-true _ _ (both-left (eqb (getD shapeColumn t 0) (shapeByte (shapeOf t))) _ (bytes-in-columns t h))
 
-pub width-in-column : (t : ℕ) → t < 128 → getD widthColumn t 0 ≡ widthByte t
-width-in-column t h = eqb-true _ _ (both-right (eqb (getD shapeColumn t 0) (shapeByte (shapeOf t))) _ (bytes-in-columns t h))
+pub mask-in-column : (t : ℕ) → t < 128 → getD maskColumn t 0 ≡ maskByte t
+mask-in-column t h = eqb-true _ _ (both-right (eqb (getD shapeColumn t 0) (shapeByte (shapeOf t))) _ (bytes-in-columns t h))
 
 right-in-column : (t : ℕ) → t < 128 → wide (shapeOf t) && (isExtended t || isFixed (shapeOf t)) ≡ true
 unfolding inColumn
 right-in-column t h =
-    both-right (eqb (getD shapeColumn t 0) (shapeByte (shapeOf t)) && eqb (getD widthColumn t 0) (widthByte t)) _ (all-below inColumn 128 all-in-column t h)
+    both-right (eqb (getD shapeColumn t 0) (shapeByte (shapeOf t)) && eqb (getD maskColumn t 0) (maskByte t)) _ (all-below inColumn 128 all-in-column t h)
 
 shape-wide : (t : ℕ) → t < 128 → wide (shapeOf t) ≡ true
 shape-wide t h = both-left (wide (shapeOf t)) _ (right-in-column t h)
@@ -167,10 +167,46 @@ byte-said (Number l m k) w f =
     rw (← e) (number-said l k (omega (arith, r .order, r .few)))
 byte-said Absent w f = refl
 
+-- a length of one byte lies within a mask where it is 0 or allowed: tested once over all lengths, for each width and for text
+asMasked : ℕ → ℕ → Bool
+asMasked w n = Bool·beq (within w n) (eqb n 0 || (leb w n && leb n w))
+
+asText : ℕ → Bool
+asText n = Bool·beq (within 127 n) (eqb n 0 || (ltb 0 n && ltb n 128))
+
+same-beq : (a b : Bool) → Bool·beq a b ≡ true → a ≡ b
+same-beq true true e = refl
+same-beq true false e = clash (sym e)
+same-beq false true e = clash (sym e)
+same-beq false false e = refl
+
+width-masked : (w n : ℕ) → allBelow (asMasked w) 128 ≡ true → n < 128 → within w n ≡ (eqb n 0 || (leb w n && leb n w))
+unfolding asMasked
+width-masked w n e h = same-beq _ _ (all-below (asMasked w) 128 e n h)
+
+mask-one : (w n : ℕ) → width1248 w ≡ true → n < 128 → within w n ≡ (eqb n 0 || (leb w n && leb n w))
+unfolding asMasked
+mask-one w n e h =
+    by-width w e
+    (λ q. rw q (width-masked 1 n refl h)) (λ q. rw q (width-masked 2 n refl h)) (λ q. rw q (width-masked 4 n refl h)) (λ q. rw q (width-masked 8 n refl h))
+
+mask-text : (n : ℕ) → n < 128 → within 127 n ≡ (eqb n 0 || (ltb 0 n && ltb n 128))
+unfolding asText
+mask-text n h = same-beq _ _ (all-below asText 128 refl n h)
+
+-- so at every tag of one length or text
+pub mask-within : (t n : ℕ) (s : Shape) → t < 128 → isExtended t ≡ false → shapeOf t ≡ s → (s ≡ Absent → ⊥) → n < 128
+    → within (lengthMask s) n ≡ (eqb n 0 || shapeAllows s n)
+mask-within t n Text h x e there few = mask-text n few
+mask-within t n (Number l m k) h x e there few =
+    let q : l ≡ m = plain-fixed t l m k h x e in
+    rw (eq-eqb l m q, ← q) (mask-one l n (by-wide l m k (ap wide (sym e) ∙ shape-wide t h) (λ _ w. w) (λ r. absurd (omega (arith, r .low, r .high, q)))) few)
+mask-within t n Absent h x e there few = absurd (there refl)
+
 -- an item whose codes are not limited takes every code
-either : (a b : Bool) → a || b ≡ false → (a ≡ false) × (b ≡ false)
-either true b e = clash e
-either false b e = (refl, e)
+pub neither : (a b : Bool) → a || b ≡ false → (a ≡ false) × (b ≡ false)
+neither true b e = clash e
+neither false b e = (refl, e)
 
 -- and one whose codes are limited is a number, so of at most eight bytes
 isNumber : Shape → Bool
@@ -206,19 +242,45 @@ limited-number t l =
     (λ h. numbered (shapeOf t) (unless (codesLimited t) _ (all-below (λ u. not (codesLimited u) || isNumber (shapeOf u)) 128 all-limited t h) l))
     (λ h. absurd (omega (arith, limited-below t h l)))
 
-pub limited-few : (t n : ℕ) → codesLimited t ≡ true → shapeAllows (shapeOf t) n ≡ true → n ≤ 8
+-- an item of the catalogue
+pub listed : (s : Shape) → (s ≡ Absent → ⊥) → isListed s ≡ true
+listed Text there = refl
+listed (Number l m k) there = refl
+listed Absent there = absurd (there refl)
+
+-- a length is right that is 0 where the item is not needed, or one of the shape's
+pub right-by : (t n : ℕ) (s : Shape) → (s ≡ Absent → ⊥) → (n ≡ 0 → isNeeded t ≡ false) → ((n ≡ 0 → ⊥) → shapeAllows s n ≡ true)
+    → sizeAllowed t s n ≡ true
+right-by t n s there free allowed =
+    rw (listed s there) (byEq n 0 (λ z. rw (eq-eqb n 0 z, free z)) (λ some. rw (ne-eqb n 0 some) (allowed some)))
+
+-- and one that is right is 0, or one of the shape's
+pub right-some : (t n : ℕ) (s : Shape) → sizeAllowed t s n ≡ true → (n ≡ 0 → ⊥) → shapeAllows s n ≡ true
+right-some t n Text a some = rw (ne-eqb n 0 some) at a
+right-some t n (Number l m k) a some = rw (ne-eqb n 0 some) at a
+right-some t n Absent a some = a
+
+pub limited-few : (t n : ℕ) → codesLimited t ≡ true → sizeAllowed t (shapeOf t) n ≡ true → n ≤ 8
 limited-few t n l a =
     let q = limited-number t l in
     let r = number-ranged t (q .least) (q .most) (q .marked) (q .same) in
-    let b : shapeAllows (Number (q .least) (q .most) (q .marked)) n ≡ true = rw (q .same) at a in
-    omega (arith, leb-true n (q .most) (both-right (leb (q .least) n) _ b), r .few)
+    byEq n 0
+    (λ z. omega arith)
+    (λ some.
+    let b : shapeAllows (Number (q .least) (q .most) (q .marked)) n ≡ true = rw (q .same) at (right-some t n (shapeOf t) a some) in
+    omega (arith, leb-true n (q .most) (both-right (leb (q .least) n) _ b), r .few))
 
 pub codes-free : (t n c : ℕ) → codesLimited t ≡ false → codeAllowed t n c ≡ true
 unfolding codesLimited codeAllowed
 codes-free t n c e =
-    let f = either (eqb t 34) _ e in
-    let g = either (eqb t 63) _ (f .1) in
-    rw (f .0, g .0, g .1)
+    let f = neither (eqb t 34) _ e in
+    let g = neither (eqb t 63) _ (f .1) in
+    rw (f .0, g .0, g .1) (or-true (eqb n 0))
+
+-- what has no bytes has no code
+pub no-code : (t c : ℕ) → codeAllowed t 0 c ≡ true
+unfolding codeAllowed
+no-code t c = refl
 
 -- the extended heights
 pub extended-in : (t : ℕ) → isExtended t ≡ true → (103 ≤ t) × (t ≤ 105)
@@ -237,7 +299,7 @@ module _ (t : ℕ) (x : isExtended t ≡ true) where
   unfolding shapeOf itemOf itemIn member groups
   extended-shape = byHeight (λ u. shapeOf u ≡ Number 2 4 false) t x refl refl refl
 
-  pub extended-code : (n c : ℕ) → codeAllowed t n c ≡ inReach n c
+  pub extended-code : (n c : ℕ) → codeAllowed t n c ≡ (eqb n 0 || inReach n c)
   unfolding codeAllowed
   extended-code n c = let e = extended-in t x in rw (ne-eqb t 34 (λ z. omega (arith, e .0)), ne-eqb t 63 (λ z. omega (arith, e .0)), x)
 

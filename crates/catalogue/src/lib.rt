@@ -1,10 +1,12 @@
 // The catalogue: which items document 01 knows, how each is stored, and which lengths and codes it allows.
 // Every answer is that of document 01's groups, in constant time, for every tag of 64 bits.
 ghost use mathlib.Core.Path.{_≡_};
+ghost use mathlib.Core.Bool.{_||_};
+ghost use lib.Dec.{eqb, ltb};
 ghost use Rattle.catalogue.specs.Rows.{allTags};
 ghost use Rattle.catalogue.specs.Extended.{isExtended, inReach};
-ghost use Rattle.catalogue.specs.Shapes.{shapeAllows, codesLimited, codeAllowed};
-ghost use Rattle.catalogue.specs.code.Column.{shapeColumn, widthColumn, shapeIn};
+ghost use Rattle.catalogue.specs.Shapes.{shapeAllows, isEmpty, isNeeded, sizeAllowed, codesLimited, codeAllowed};
+ghost use Rattle.catalogue.specs.code.Column.{shapeColumn, maskColumn, shapeIn};
 use tagset::TagSet;
 
 // How the codes of a number are read: as they stand, in two's complement, or in two's complement with the lowest one a mark.
@@ -87,24 +89,25 @@ pub fn shapes() -> [u8; 128]
     COLUMN
 }
 
-// The widths alone, for a glance: 0 for text and for what is not in the table, and 0x80 where a closer look is asked for, at an extended height
+// For a glance at a length of one byte, a mask within which every right one lies: the width of a number, which is a power of two, so that no
+// bytes and the width lie within it; 0x7f for text and for what is not in the table; 0x80 where a closer look is asked for, at an extended height
 // and at tag 0, which no item has.
-const WIDTHS: [u8; 128] = *b"\
-    \x80\x02\x08\x00\x00\x02\x02\x02\x01\x01\x00\x00\x00\x04\x04\x02\
+const MASKS: [u8; 128] = *b"\
+    \x80\x02\x08\x7f\x7f\x02\x02\x02\x01\x01\x7f\x7f\x7f\x04\x04\x02\
     \x02\x02\x04\x04\x04\x04\x02\x04\x04\x02\x02\x02\x02\x02\x02\x02\
-    \x02\x02\x01\x02\x01\x02\x02\x01\x00\x00\x00\x00\x00\x00\x00\x00\
-    \x00\x00\x00\x00\x00\x00\x00\x01\x01\x04\x00\x00\x00\x00\x00\x01\
-    \x02\x01\x00\x04\x04\x00\x00\x02\x00\x00\x00\x02\x00\x00\x02\x02\
-    \x02\x00\x04\x04\x04\x04\x04\x04\x04\x04\x04\x04\x00\x00\x00\x00\
-    \x00\x00\x00\x00\x00\x00\x00\x80\x80\x80\x00\x00\x00\x00\x00\x00\
-    \x00\x00\x00\x00\x00\x00\x00\x00\x00\x00\x00\x00\x00\x00\x00\x00\
+    \x02\x02\x01\x02\x01\x02\x02\x01\x7f\x7f\x7f\x7f\x7f\x7f\x7f\x7f\
+    \x7f\x7f\x7f\x7f\x7f\x7f\x7f\x01\x01\x04\x7f\x7f\x7f\x7f\x7f\x01\
+    \x02\x01\x7f\x04\x04\x7f\x7f\x02\x7f\x7f\x7f\x02\x7f\x7f\x02\x02\
+    \x02\x7f\x04\x04\x04\x04\x04\x04\x04\x04\x04\x04\x7f\x7f\x7f\x7f\
+    \x7f\x7f\x7f\x7f\x7f\x7f\x7f\x80\x80\x80\x7f\x7f\x7f\x7f\x7f\x7f\
+    \x7f\x7f\x7f\x7f\x7f\x7f\x7f\x7f\x7f\x7f\x7f\x7f\x7f\x7f\x7f\x7f\
 ";
 
-// The widths of all tags below 128.
-pub fn widths() -> [u8; 128]
-    ensures { λ r. ⌜ r ≡ widthColumn ⌝ }
+// The masks of all tags below 128.
+pub fn length_masks() -> [u8; 128]
+    ensures { λ r. ⌜ r ≡ maskColumn ⌝ }
 {
-    WIDTHS
+    MASKS
 }
 
 // The shape that a column of shapes has for a tag. The lengths of an extended height go by its tag, so that all else is seen to have one; from 128
@@ -168,6 +171,46 @@ pub fn allows_length(shape: Shape, n: usize) -> bool
     }
 }
 
+// Whether a known item has no bytes, by which it is withdrawn (W-204).
+pub fn is_empty(shape: Shape, n: usize) -> bool
+    ensures { λ r. ⌜ r ≡ isEmpty shape n ⌝ }
+{
+    if n == 0 {
+        return match shape {
+            Shape::Text => true,
+            Shape::Number {
+                least: _,
+                most: _,
+                marked: _,
+            } => true,
+            Shape::Absent => false,
+        };
+    }
+    false
+}
+
+// Whether an item is one that no packet is without: these are never withdrawn.
+pub fn is_needed(tag: u64) -> bool
+    ensures { λ r. ⌜ r ≡ isNeeded tag ⌝ }
+{
+    match tag {
+        1 => true,
+        2 => true,
+        65 => true,
+        _ => false,
+    }
+}
+
+// Whether a known item may have n bytes: those of its shape, or none.
+pub fn allows_size(tag: u64, shape: Shape, n: usize) -> bool
+    ensures { λ r. ⌜ r ≡ sizeAllowed tag shape n ⌝ }
+{
+    if is_empty(shape, n) {
+        return !is_needed(tag);
+    }
+    allows_length(shape, n)
+}
+
 // Whether a tag is that of an extended height.
 pub fn is_extended(tag: u64) -> bool
     ensures { λ r. ⌜ r ≡ isExtended tag ⌝ }
@@ -203,20 +246,34 @@ pub fn is_in_reach(size: usize, code: u64) -> bool
     false
 }
 
-// Whether an item may have a code: 34 goes from 0 to 2, 63 from 0 to 8, an extended height up to 40,000 m, and every other takes all.
+// Whether a code is below a limit; a value of no bytes has none.
+fn is_under(limit: u64, size: usize, code: u64) -> bool
+    ensures { λ r. ⌜ r ≡ (eqb size 0 || ltb code limit) ⌝ }
+{
+    if size == 0 {
+        return true;
+    }
+    code < limit
+}
+
+// Whether an item may have a code: 34 goes from 0 to 2, 63 from 0 to 8, an extended height up to 40,000 m, and every other takes all; where there
+// are no bytes, no code is looked at.
 pub fn allows_code(tag: u64, size: usize, code: u64) -> bool
     ensures { λ r. ⌜ r ≡ codeAllowed tag size code ⌝ }
 {
     // most tags are below 64, and are not asked whether they are extended heights
     if 63 < tag {
         if is_extended(tag) {
+            if size == 0 {
+                return true;
+            }
             return is_in_reach(size, code);
         }
         return true;
     }
     match tag {
-        34 => code < 3,
-        63 => code < 9,
+        34 => is_under(3, size, code),
+        63 => is_under(9, size, code),
         _ => true,
     }
 }

@@ -23,8 +23,10 @@ use Rattle.tagset.specs.declared.TagSet.{TagSet}
 use Rattle.tagset.proofs.Laws.{Words, holds-none}
 use Rattle.catalogue.specs.Items.{groups, member, itemIn, itemOf}
 use Rattle.catalogue.specs.Extended.{isExtended}
-use Rattle.catalogue.specs.Shapes.{isMarked, shapeOf, lengthAllowed}
-use Rattle.catalogue.proofs.Columns.{extended-shape}
+use Rattle.catalogue.specs.Shapes.{isMarked, shapeOf, isListed, rightLength}
+use Rattle.catalogue.proofs.Columns.{extended-shape, right-some}
+use Rattle.knowing.proofs.Laws.{good-means}
+use Rattle.rows.proofs.Present.{known-listed}
 use Rattle.catalogue.specs.declared.Item.{Item}
 use Rattle.catalogue.specs.declared.Found.the-variants as found
 use Rattle.catalogue.specs.declared.Shape.the-variants.{Number}
@@ -48,7 +50,6 @@ use Rattle.packet.proofs.Accepting.{accepting}
 use Rattle.laws.proofs.Clean.{fine-clean}
 use Rattle.scale.specs.Scales.{codes, half, origin, reach, steps, isNumber}
 use Rattle.scale.specs.Conversions.{houseOf, toHouse}
-use Rattle.scale.proofs.Classes.{height-lengths}
 use Rattle.scale.proofs.Given.{Scaled, scaled-rule, scaled-plain, no-number-20}
 use Rattle.ground.specs.Values.{inHouse, valueBy, valueFor}
 use Rattle.ground.specs.Ground.{fromRows}
@@ -67,26 +68,39 @@ unknown K t e (i ∷ is) =
     (λ n. rw (ne-eqb _ _ n) (unknown K t e is))
 
 -- a value is found past the key
-found-some : (t : ℕ) (h : Header) → 0 < h .place → 0 < foundAt t (h .place) (h .size)
-found-some t h some = byBool (isExtended t) (λ x. rw x (omega arith)) (λ x. rw x (omega arith))
+found-some : (t : ℕ) (h : Header) → 0 < h .place → (h .size ≡ 0 → ⊥) → 0 < foundAt t (h .place) (h .size)
+found-some t h past some = rw (ne-eqb (h .size) 0 some) (byBool (isExtended t) (λ x. rw x (omega arith)) (λ x. rw x (omega arith)))
 
 -- what is used of a packet's being accepted
 abbrev Sized : TagSet → List pieces.Piece → Type 0
-Sized K cs = (k : ℕ) → k < length cs → holds K (pieceAt cs k .tag) ≡ true → lengthAllowed (pieceAt cs k .tag) (length (pieceAt cs k .value)) ≡ true
+Sized K cs = (k : ℕ) → k < length cs → holds K (pieceAt cs k .tag) ≡ true → rightLength (pieceAt cs k .tag) (length (pieceAt cs k .value)) ≡ true
 
 abbrev Once : TagSet → List pieces.Piece → Type 0
 Once K cs = (j k : ℕ) → j < k → k < length cs → holds K (pieceAt cs k .tag) ≡ true → pieceAt cs j .tag ≡ pieceAt cs k .tag → ⊥
 
--- a row of a tag says what its code and its length are in house units
+-- a row of a tag says what its code and its length are in house units, if it has bytes
 abbrev InHouse : TagSet → ℕ → Type 0
-InHouse K t = (j : pieces.Item) → partLength (rowOf (holds K) j .part) ≡ length (j .piece .value) → (rs : List RowWords) → j .piece .tag ≡ t
+InHouse K t = (j : pieces.Item) → (length (j .piece .value) ≡ 0 → ⊥) → partLength (rowOf (holds K) j .part) ≡ length (j .piece .value)
+    → (rs : List RowWords) → j .piece .tag ≡ t
     → valueFor t (rowOf (holds K) j ∷ rs) ≡ inHouse (toHouse t (length (j .piece .value)) (valueOf (j .piece .value)))
 
 -- a known tag: nothing, or the one item that has it
-module _ (K : TagSet) (p : List ℕ) (t : ℕ) (knows : holds K t ≡ true) (some : 0 < t) (below : t < 128) (says : InHouse K t) where
+module _ (K : TagSet) (p : List ℕ) (t : ℕ) (knows : holds K t ≡ true) (some : 0 < t) (below : t < 128) (listed : isListed (shapeFor (holds K) t) ≡ true)
+    (says : InHouse K t) where
   skipped : (j : pieces.Item) (rs : List RowWords) → (j .piece .tag ≡ t → ⊥) → valueFor t (rowOf (holds K) j ∷ rs) ≡ valueFor t rs
   unfolding valueFor rowOf
   skipped j rs n = rw (ne-eqb _ _ n)
+
+  -- a withdrawn row does not count
+  withdrawn : (j : pieces.Item) (rs : List RowWords) → j .piece .tag ≡ t → length (j .piece .value) ≡ 0 → valueFor t (rowOf (holds K) j ∷ rs) ≡ valueFor t rs
+  unfolding valueFor rowOf
+  withdrawn j rs q z = rw (q, listed, z, eq-eqb t t refl)
+
+  no-more : (is : List pieces.Item) → ((k : ℕ) → k < length (pieces.pieces is) → pieceAt (pieces.pieces is) k .tag ≡ t → ⊥)
+      → valueFor t (rowsOf (holds K) is) ≡ Absent
+  unfolding rowsOf valueFor
+  no-more [] n = refl
+  no-more (j ∷ js) n = skipped j (rowsOf (holds K) js) (n 0 (omega arith)) ∙ no-more js (λ k h. n (suc k) (suc-le-suc h))
 
   -- where its value is found stays where no item more has the tag
   stays : (l : List ℕ) (is : List pieces.Item) → ((k : ℕ) → k < length (pieces.pieces is) → pieceAt (pieces.pieces is) k .tag ≡ t → ⊥)
@@ -102,7 +116,8 @@ module _ (K : TagSet) (p : List ℕ) (t : ℕ) (knows : holds K t ≡ true) (som
     at : ℕ
     header : Header
     lies : Lies p at header
-    allowed : lengthAllowed t (header .size) ≡ true
+    bytes : header .size ≡ 0 → ⊥
+    allowed : rightLength t (header .size) ≡ true
     found : place ≡ foundAt t (header .place) (header .size)
     value : valueFor t rs ≡ inHouse (toHouse t (header .size) (valueOf (take (header .size) (drop (header .place) p))))
 
@@ -125,23 +140,33 @@ module _ (K : TagSet) (p : List ℕ) (t : ℕ) (knows : holds K t ≡ true) (som
         let long : length v ≡ h .size = ap (λ x. x .size) (header-back p h (lies .inside)) in
         let slot : getD next t 0 ≡ e =
         ap (λ u. getD (set l u e) t 0) (ap oneByte q ∙ short-same t below) ∙ getD-set-same l t e 0 (rw full below) in
-        let last : getD (placesFrom next js) t 0 ≡ e =
-        stays next js (λ k f g. once 0 (suc k) (omega arith) (suc-le-suc f) (rw g knows) (q ∙ sym g)) ∙ slot in
+        let others : (k : ℕ) → k < length (pieces.pieces js) → pieceAt (pieces.pieces js) k .tag ≡ t → ⊥ =
+        λ k f g. once 0 (suc k) (omega arith) (suc-le-suc f) (rw g knows) (q ∙ sym g) in
+        let last : getD (placesFrom next js) t 0 ≡ e = stays next js others ∙ slot in
         let same : e ≡ foundAt t (h .place) (h .size) = rw (q, long) in
         let part : partLength (h .place * 65536 + length v) ≡ length v = digits-mod (h .place) (omega (arith, long, lies .inside, short)) in
-        let value = says (itemBy p h) part (rowsOf (holds K) js) q in
-        let allowed : lengthAllowed t (h .size) ≡ true = rw (q, long) at (sized 0 (omega arith) (rw q knows)) in
+        byEq (h .size) 0
+        (λ z.
+        let nowhere : e ≡ 0 = same ∙ rw z in
         rw last (record {
-          none = λ z. absurd (omega (arith, z, same, found-some t h (omega (arith, lies .two))));
+          none = λ _. withdrawn (itemBy p h) (rowsOf (holds K) js) q (long ∙ z) ∙ no-more js others;
+          there = λ f. absurd (omega (arith, f, nowhere));
+        }))
+        (λ bytes.
+        let value = says (itemBy p h) (λ z. bytes (sym long ∙ z)) part (rowsOf (holds K) js) q in
+        let allowed : rightLength t (h .size) ≡ true = rw (q, long) at (sized 0 (omega arith) (rw q knows)) in
+        rw last (record {
+          none = λ z. absurd (omega (arith, z, same, found-some t h (omega (arith, lies .two)) bytes));
           there = λ _. record {
             at = at;
             header = h;
             lies = lies;
+            bytes = bytes;
             allowed = allowed;
             found = same;
             value = value ∙ ap (λ n. inHouse (toHouse t n (valueOf v))) long;
           };
-        }))
+        })))
         (λ n.
         let slot : getD next t 0 ≡ 0 = getD-set-other l (oneByte (h .tag)) t e 0 (short-other t (h .tag) some (λ q. n (sym q))) ∙ fresh in
         let r = told next js (length-set l (oneByte (h .tag)) e ∙ full) slot rest (λ k f. sized (suc k) (suc-le-suc f))
@@ -153,6 +178,7 @@ module _ (K : TagSet) (p : List ℕ) (t : ℕ) (knows : holds K t ≡ true) (som
             at = y .at;
             header = y .header;
             lies = y .lies;
+            bytes = y .bytes;
             allowed = y .allowed;
             found = y .found;
             value = skip ∙ y .value;
@@ -168,17 +194,18 @@ module _ (K : TagSet) (p : List ℕ) (t : ℕ) (i : Item) (knows : holds K t ≡
 
   scaled-says : InHouse K t
   unfolding valueFor valueBy rowOf
-  scaled-says j size rs e =
+  scaled-says j bytes size rs e =
       let v : List ℕ = j .piece .value in
+      let some = ne-eqb (length v) 0 bytes in
       byBool (isMarked (i .sign) && eqb (valueOf v) (markCode (i .width)))
-      (λ m. rw (e, shape-is (holds K) p t i knows s, m, eq-eqb t t refl, no-number-20 s (length v) (valueOf v) (mark-refused _ m)))
-      (λ m. rw (e, shape-is (holds K) p t i knows s, m, eq-eqb t t refl, size))
+      (λ m. rw (e, shape-is (holds K) p t i knows s, some, m, eq-eqb t t refl, no-number-20 s (length v) (valueOf v) (mark-refused _ m)))
+      (λ m. rw (e, shape-is (holds K) p t i knows s, some, m, eq-eqb t t refl, size))
 
-  sized-so : (n : ℕ) → lengthAllowed t n ≡ true → n ≡ i .width
-  unfolding lengthAllowed shapeFor
-  sized-so n a =
+  sized-so : (n : ℕ) → (n ≡ 0 → ⊥) → rightLength t n ≡ true → n ≡ i .width
+  unfolding rightLength shapeFor
+  sized-so n bytes a =
       let f : shapeOf t ≡ Number (i .width) (i .width) (isMarked (i .sign)) = rw knows at (shape-is (holds K) p t i knows s) in
-      let b : (leb (i .width) n && leb n (i .width)) ≡ true = rw f at a in
+      let b : (leb (i .width) n && leb n (i .width)) ≡ true = rw f at (right-some t n (shapeOf t) a bytes) in
       omega (arith, leb-true (i .width) n (both-left (leb (i .width) n) _ b), leb-true n (i .width) (both-right (leb (i .width) n) _ b))
 
 -- a code of so few bytes is what a word says of them
@@ -223,13 +250,16 @@ module _ (K : TagSet) (p places : List ℕ) (by : Bytes p) (w : Words K) (a : Pl
   absent : holds K t ≡ false → Absent ≡ valueFor t (rowsHeld K p)
   absent e = sym (ap (valueFor t) held ∙ unknown (holds K) t e (a .items))
 
+  shape-listed : holds K t ≡ true → isListed (shapeFor (holds K) t) ≡ true
+  shape-listed e = known-listed K (good-means K w (accepting K p (a .items) by (a .accepted) .known)) t ∙ e
+
   known-told : (e : holds K t ≡ true) (some : 0 < t) (below : t < 128) (says : InHouse K t)
-      → Told K p t e some below says (getD (placesFrom noPlaces (a .items)) t 0) (rowsOf (holds K) (a .items))
+      → Told K p t e some below (shape-listed e) says (getD (placesFrom noPlaces (a .items)) t 0) (rowsOf (holds K) (a .items))
   known-told e some below says =
       let is : List pieces.Item = a .items in
       let accepts = accepting K p is by (a .accepted) in
       let c = fine-clean (holds K) (pieces.pieces is) (accepts .clean) in
-      told K p t e some below says by (accepts .short) noPlaces is (length-replicate {A = ℕ} 128 0)
+      told K p t e some below (shape-listed e) says by (accepts .short) noPlaces is (length-replicate {A = ℕ} 128 0)
       (getD-replicate {A = ℕ} 128 t 0 0 below) (walked p by 128 (startOf 0 is) is (accepts .fills)) (c .sized) (c .once)
 
   below-held : holds K t ≡ true → t < 128
@@ -252,8 +282,10 @@ module _ (K : TagSet) (p places : List ℕ) (by : Bytes p) (w : Words K) (a : Pl
         let narrow : g < 5 = scaled-rule s .narrow in
         let end : ℕ = getD (placesFrom noPlaces (a .items)) t 0 in
         let r = known-told e (omega (arith, tag-some)) (below-held e) (scaled-says K p t (itemWith t (k .group)) e s) in
-        let size : (h : 0 < end) → r .there h .header .size ≡ g = λ h. sized-so K p t (itemWith t (k .group)) e s _ (r .there h .allowed) in
-        let past : (h : 0 < end) → end ≡ r .there h .header .place + r .there h .header .size = λ h. r .there h .found ∙ rw (scaled-plain s) in
+        let size : (h : 0 < end) → r .there h .header .size ≡ g =
+        λ h. sized-so K p t (itemWith t (k .group)) e s _ (r .there h .bytes) (r .there h .allowed) in
+        let past : (h : 0 < end) → end ≡ r .there h .header .place + r .there h .header .size =
+        λ h. r .there h .found ∙ rw (ne-eqb _ 0 (r .there h .bytes), scaled-plain s) in
         let inside : (h : 0 < end) → r .there h .header .place + r .there h .header .size ≤ length p = λ h. r .there h .lies .inside in
         rw (e, a .places, held, ← k .wide) (record {
           inside = byLt 0 end (λ h. omega (arith, past h, inside h)) (λ h. omega arith);
@@ -276,7 +308,7 @@ module _ (K : TagSet) (p places : List ℕ) (by : Bytes p) (w : Words K) (a : Pl
   module _ (x : isExtended t ≡ true) where
     height-says : holds K t ≡ true → InHouse K t
     unfolding valueFor valueBy rowOf shapeFor
-    height-says e j size rs q = rw (q, e, extended-shape t x, eq-eqb t t refl, size)
+    height-says e j bytes size rs q = rw (q, e, extended-shape t x, ne-eqb _ 0 bytes, eq-eqb t t refl, size)
 
     height-not-known : holds K t ≡ false → HeightStands p t (placeIn K places t) (valueFor t (rowsHeld K p))
     height-not-known e =
@@ -286,15 +318,16 @@ module _ (K : TagSet) (p places : List ℕ) (by : Bytes p) (w : Words K) (a : Pl
     unfolding isExtended
     height-some = omega (arith, leb-true 103 t (both-left (leb 103 t) _ x))
 
-    height-few : (n : ℕ) → lengthAllowed t n ≡ true → n ≤ 4
-    height-few n h = leb-true n 4 (both-right (leb 2 n) _ (sym (height-lengths t n x) ∙ h))
+    height-few : (n : ℕ) → (n ≡ 0 → ⊥) → rightLength t n ≡ true → n ≤ 4
+    unfolding rightLength
+    height-few n bytes h = leb-true n 4 (both-right (leb 2 n) _ (rw (extended-shape t x) at (right-some t n (shapeOf t) h bytes)))
 
     height-known : holds K t ≡ true → HeightStands p t (placeIn K places t) (valueFor t (rowsHeld K p))
     height-known e =
         let place : ℕ = getD (placesFrom noPlaces (a .items)) t 0 in
         let r = known-told e height-some (below-held e) (height-says e) in
-        let few : (h : 0 < place) → r .there h .header .size ≤ 4 = λ h. height-few _ (r .there h .allowed) in
-        let here : (h : 0 < place) → place ≡ r .there h .header .place = λ h. r .there h .found ∙ rw x in
+        let few : (h : 0 < place) → r .there h .header .size ≤ 4 = λ h. height-few _ (r .there h .bytes) (r .there h .allowed) in
+        let here : (h : 0 < place) → place ≡ r .there h .header .place = λ h. r .there h .found ∙ rw (ne-eqb _ 0 (r .there h .bytes), x) in
         let size : (h : 0 < place) → getD p (place - 1) 0 ≡ r .there h .header .size =
         λ h. ap (λ k. getD p (k - 1) 0) (here h) ∙ r .there h .lies .told (omega (arith, few h)) in
         let inside : (h : 0 < place) → r .there h .header .place + r .there h .header .size ≤ length p = λ h. r .there h .lies .inside in

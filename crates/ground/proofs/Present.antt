@@ -1,5 +1,5 @@
--- What the rows of an accepted packet say of a scaled tag that the receiver knows: nothing where no row has the tag, off the Earth
--- just where the row is a mark, and otherwise the reading in house units, which is never refused.
+-- What the rows of an accepted packet say of a scaled tag that the receiver knows: nothing where no row has the tag or it is withdrawn, off the
+-- Earth just where the row is a mark, and otherwise the reading in house units, which is never refused.
 -- Assumes nothing.
 use Prim.Native.Nat.{ℕ, _+_, _-_, _*_, _^_}
 use native.Mathlib.Omega.{arith}
@@ -8,6 +8,7 @@ use mathlib.Core.Bool.{Bool, true, false, _&&_}
 use mathlib.Core.Logic.{_⊎_, inl, inr, ⊎-elim}
 use mathlib.Core.List.{List, [], _∷_}
 use lib.Dec.{ltb, leb, eqb}
+use lib.ListN.{length}
 use borrow.Author.Tests.{eqb-true, leb-true, eq-eqb, ne-eqb}
 use Rattle.base.proofs.Cases.{byBool, byEq, clash}
 use Rattle.base.specs.Every.{Each}
@@ -22,10 +23,11 @@ use Rattle.catalogue.specs.Shapes.{isMarked, shapeOf, shapeAllows}
 use Rattle.catalogue.specs.declared.Item.{Item}
 use Rattle.catalogue.specs.declared.Found.{Found}
 use Rattle.catalogue.specs.declared.Found.the-variants.{Known, Absent as Unlisted}
+use Rattle.catalogue.specs.declared.Shape.{Shape}
 use Rattle.catalogue.specs.declared.Shape.the-variants.{Number}
-use Rattle.rows.specs.Meaning.{shapeFor, markCode, kindFor, isNumber as number}
+use Rattle.rows.specs.Meaning.{shapeFor, markCode, valueAs, kindOf, kindFor, isNumber as number}
 use Rattle.rows.specs.declared.RowWords.{RowWords}
-use Rattle.rows.specs.Taken.{partLength, codeGood, rowGood, tagGood, rowSays, GoodRow}
+use Rattle.rows.specs.Taken.{partLength, codeGood, contentGood, rowGood, tagGood, rowSays, GoodRow}
 use Rattle.packet.specs.Pieces as pieces
 use Rattle.packet.specs.Judge.{Knowing}
 use Rattle.packet.specs.Verdict.{received}
@@ -44,11 +46,11 @@ pub data In (r : RowWords) : List RowWords → Type 0 where
   there : {s : RowWords} {rs : List RowWords} → In r rs → In r (s ∷ rs)
 
 pub data Says (i : Item) (t : ℕ) (rs : List RowWords) : Value → Type 0 where
-  nothing : Each (λ r. r .tag ≡ t → ⊥) rs → Says i t rs Absent
+  nothing : Each (λ r. r .tag ≡ t → r .kind ≡ 5) rs → Says i t rs Absent
   a-mark : (r : RowWords) → In r rs → r .tag ≡ t → r .kind ≡ 2 → Says i t rs Off
   a-reading : (r : RowWords) → In r rs → r .tag ≡ t → r .kind ≡ 1 → Says i t rs (At (houseOf i (r .code)))
 
-says-after : {i : Item} {t : ℕ} {rs : List RowWords} {v : Value} (r : RowWords) → (r .tag ≡ t → ⊥) → Says i t rs v → Says i t (r ∷ rs) v
+says-after : {i : Item} {t : ℕ} {rs : List RowWords} {v : Value} (r : RowWords) → (r .tag ≡ t → r .kind ≡ 5) → Says i t rs v → Says i t (r ∷ rs) v
 says-after r n (nothing e) = nothing (n, e)
 says-after r n (a-mark s m e k) = a-mark s (there m) e k
 says-after r n (a-reading s m e k) = a-reading s (there m) e k
@@ -56,6 +58,10 @@ says-after r n (a-reading s m e k) = a-reading s (there m) e k
 -- a row of either kind is a number
 a-number : (r : RowWords) → (r .kind ≡ 2) ⊎ (r .kind ≡ 1) → number (rowSays r) ≡ true
 a-number r k = ⊎-elim (λ e. rw e) (λ e. rw e) k
+
+-- and a withdrawn one is none
+no-number : (r : RowWords) → r .kind ≡ 5 → number (rowSays r) ≡ false
+no-number r e = rw e
 
 -- the checksum has no scale
 scaledBy : Found → Bool
@@ -83,51 +89,63 @@ module _ (K : Knowing) (b : List ℕ) (t : ℕ) (i : Item) (knows : K t ≡ true
 
   -- a row of the tag that is not bad is a mark or a number
   module _ (r : RowWords) (e : r .tag ≡ t) (g : GoodRow K b r) where
-    parts : (eqb (r .kind) (kindFor (Number (i .width) (i .width) (isMarked (i .sign))) (r .code))
-        && (shapeAllows (Number (i .width) (i .width) (isMarked (i .sign))) (partLength (r .part))
-        && codeGood (r .tag) (partLength (r .part)) (r .code))) ≡ true
+    abbrev shape : Shape
+    shape = Number (i .width) (i .width) (isMarked (i .sign))
+
+    abbrev n : ℕ
+    n = partLength (r .part)
+
+    parts : eqb (r .kind) (kindFor shape (r .code) n) && contentGood shape (length b) r ≡ true
     unfolding rowGood
     parts = both-right (tagGood (r .tag)) _ (rw (ap (shapeFor K) e ∙ shape-is) at g)
 
-    kind-is : r .kind ≡ kindFor (Number (i .width) (i .width) (isMarked (i .sign))) (r .code)
-    kind-is = eqb-true _ _ (both-left (eqb (r .kind) (kindFor (Number (i .width) (i .width) (isMarked (i .sign))) (r .code))) _ parts)
+    kind-is : r .kind ≡ kindFor shape (r .code) n
+    kind-is = eqb-true _ _ (both-left (eqb (r .kind) (kindFor shape (r .code) n)) _ parts)
 
     no-sum : eqb (r .tag) 1 ≡ false
     no-sum = byEq (r .tag) 1 (λ z. absurd (unscaled-sum i (rw (← z, e) s))) (λ n. ne-eqb _ _ n)
 
-    content : (shapeAllows (Number (i .width) (i .width) (isMarked (i .sign))) (partLength (r .part))
-        && codeGood (r .tag) (partLength (r .part)) (r .code)) ≡ true
-    content = both-right (eqb (r .kind) (kindFor (Number (i .width) (i .width) (isMarked (i .sign))) (r .code))) _ parts
+    -- withdrawn, where it has no bytes
+    withdrawn-says : n ≡ 0 → r .kind ≡ 5
+    withdrawn-says z = rw z at kind-is
 
-    size-is : partLength (r .part) ≡ i .width
-    size-is =
-        let n : ℕ = partLength (r .part) in
-        let a = both-left (shapeAllows (Number (i .width) (i .width) (isMarked (i .sign))) n) _ content in
-        omega (arith, leb-true (i .width) n (both-left (leb (i .width) n) _ a), leb-true n (i .width) (both-right (leb (i .width) n) _ a))
+    module _ (some : n ≡ 0 → ⊥) where
+      value-kind : r .kind ≡ kindOf (valueAs {A = Unit {0}} shape (r .code) n tt)
+      value-kind = rw (ne-eqb n 0 some) at kind-is
 
-    fits : ltb (r .code) (2 ^ (8 * i .width)) ≡ true
-    fits = rw (no-sum, size-is) at (both-right (shapeAllows (Number (i .width) (i .width) (isMarked (i .sign))) (partLength (r .part))) _ content)
+      content : (shapeAllows shape n && codeGood (r .tag) n (r .code)) ≡ true
+      content = rw (ne-eqb n 0 some) at (both-right (eqb (r .kind) (kindFor shape (r .code) n)) _ parts)
 
-    mark-says : marked r ≡ true → (r .kind ≡ 2) × (valueBy r ≡ Off)
-    unfolding valueBy
-    mark-says m = let k : r .kind ≡ 2 = rw m at kind-is in (k, rw k)
+      size-is : n ≡ i .width
+      size-is =
+          let a = both-left (shapeAllows shape n) _ content in
+          omega (arith, leb-true (i .width) n (both-left (leb (i .width) n) _ a), leb-true n (i .width) (both-right (leb (i .width) n) _ a))
 
-    reading-says : marked r ≡ false → (r .kind ≡ 1) × (valueBy r ≡ At (houseOf i (r .code)))
-    unfolding valueBy codes half
-    reading-says m =
-        let k : r .kind ≡ 1 = rw m at kind-is in
-        let n : isNumber i (r .code) ≡ true = rw (fits, m) in
-        (k, rw (k, e, every-code-converts s (partLength (r .part)) (r .code) n))
+      fits : ltb (r .code) (2 ^ (8 * i .width)) ≡ true
+      fits = rw (no-sum, size-is) at (both-right (shapeAllows shape n) _ content)
+
+      mark-says : marked r ≡ true → (r .kind ≡ 2) × (valueBy r ≡ Off)
+      unfolding valueBy
+      mark-says m = let k : r .kind ≡ 2 = rw m at value-kind in (k, rw k)
+
+      reading-says : marked r ≡ false → (r .kind ≡ 1) × (valueBy r ≡ At (houseOf i (r .code)))
+      unfolding valueBy codes half
+      reading-says m =
+          let k : r .kind ≡ 1 = rw m at value-kind in
+          let converts : isNumber i (r .code) ≡ true = rw (fits, m) in
+          (k, rw (k, e, every-code-converts s n (r .code) converts))
 
   value-says : (rs : List RowWords) → Each (GoodRow K b) rs → Says i t rs (valueFor t rs)
   unfolding valueFor
   value-says [] g = nothing tt
   value-says (r ∷ rs) g =
       byEq (r .tag) t
-      (λ e. byBool (marked r)
-      (λ m. let y = mark-says r e (g .0) m in rw (eq-eqb _ _ e, a-number r (inl (y .0)), y .1) (a-mark r here e (y .0)))
-      (λ m. let y = reading-says r e (g .0) m in rw (eq-eqb _ _ e, a-number r (inr (y .0)), y .1) (a-reading r here e (y .0))))
-      (λ n. rw (ne-eqb _ _ n) (says-after r n (value-says rs (g .1))))
+      (λ e. byEq (partLength (r .part)) 0
+      (λ z. let k = withdrawn-says r e (g .0) z in rw (eq-eqb _ _ e, no-number r k) (says-after r (λ _. k) (value-says rs (g .1))))
+      (λ some. byBool (marked r)
+      (λ m. let y = mark-says r e (g .0) some m in rw (eq-eqb _ _ e, a-number r (inl (y .0)), y .1) (a-mark r here e (y .0)))
+      (λ m. let y = reading-says r e (g .0) some m in rw (eq-eqb _ _ e, a-number r (inr (y .0)), y .1) (a-reading r here e (y .0)))))
+      (λ n. rw (ne-eqb _ _ n) (says-after r (λ e. absurd (n e)) (value-says rs (g .1))))
 
 pub present : (K : TagSet) (p : List ℕ) (is : List pieces.Item) → Bytes p → received K p ≡ given is → (t : ℕ) (i : Item) → holds K t ≡ true → Scaled t i
     → Says i t (rowsOf (holds K) is) (valueFor t (rowsOf (holds K) is))

@@ -13,7 +13,7 @@ use Rattle.base.proofs.Cases.{byBool, never}
 use Rattle.base.proofs.Every.{both-left}
 use Rattle.refusal.specs.Answer.{Answer, given, refused}
 use Rattle.catalogue.specs.declared.Item.{Item}
-use Rattle.rows.specs.Meaning.{Meaning, reading, mark, text, carried, isNumber}
+use Rattle.rows.specs.Meaning.{Meaning, reading, mark, text, carried, withdrawn, isNumber}
 use Rattle.rows.specs.declared.RowWords.{RowWords}
 use Rattle.rows.specs.Taken.{rowSays}
 use Rattle.rows.specs.declared.Part.{Part}
@@ -41,6 +41,7 @@ row-small r = seen-small (rowSays r)
     seen-small (mark code size) = tt
     seen-small (text part) = tt
     seen-small (carried part) = tt
+    seen-small withdrawn = tt
 
 pub value-small : (t : ℕ) (rs : List RowWords) → Small (valueFor t rs)
 unfolding valueFor
@@ -65,6 +66,7 @@ module _ {t : ℕ} {i : Item} (s : Scaled t i) (v : ℤ) where
   seen-so (mark code n) f = never (cc)
   seen-so (text part) f = never (cc)
   seen-so (carried part) f = never (cc)
+  seen-so withdrawn f = never (cc)
 
   pub value-inside : (rs : List RowWords) → valueFor t rs ≡ At v → isOutside i v ≡ false
   unfolding valueFor valueBy

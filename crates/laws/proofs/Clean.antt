@@ -11,22 +11,22 @@ use lib.Dec.{eqb}
 use borrow.Author.Tests.{eqb-true, eqb-false, eq-eqb, ne-eqb}
 use Rattle.base.proofs.Cases.{byBool, clash, never}
 use Rattle.number.specs.Stored.{valueOf}
-use Rattle.catalogue.specs.Shapes.{lengthAllowed, codeAllowed}
+use Rattle.catalogue.specs.Shapes.{rightLength, codeAllowed}
 use Rattle.packet.specs.Pieces.{Piece}
 use Rattle.packet.specs.Judge.{Knowing, has, among, Fault, clean, wrong, faultOf, Judged, fine, faulty, noVersion, later, judgeFrom, judge}
 use Rattle.packet.specs.Allowed.{pieceAt, Clean}
 
 -- a known item by itself, after the tags that were seen
 record Right (seen : List ℕ) (c : Piece) : Type 0 where
-  sized : lengthAllowed (c .tag) (length (c .value)) ≡ true
+  sized : rightLength (c .tag) (length (c .value)) ≡ true
   fresh : has (c .tag) seen ≡ false
   coded : codeAllowed (c .tag) (length (c .value)) (valueOf (c .value)) ≡ true
 
 module _ (K : Knowing) (seen : List ℕ) (c : Piece) where
   clean-right : faultOf K (among seen) c ≡ clean → K (c .tag) ≡ true → Right seen c
-  unfolding faultOf lengthAllowed
+  unfolding faultOf rightLength
   clean-right e k =
-      byBool (lengthAllowed (c .tag) (length (c .value)))
+      byBool (rightLength (c .tag) (length (c .value)))
       (λ a. byBool (has (c .tag) seen)
       (λ b. let z : wrong 13 ≡ clean = rw (k, a, b) at e in never (cc))
       (λ b. byBool (codeAllowed (c .tag) (length (c .value)) (valueOf (c .value)))
@@ -35,7 +35,7 @@ module _ (K : Knowing) (seen : List ℕ) (c : Piece) where
       (λ a. let z : wrong 12 ≡ clean = rw (k, a) at e in never (cc))
 
   right-clean : (K (c .tag) ≡ true → Right seen c) → faultOf K (among seen) c ≡ clean
-  unfolding faultOf lengthAllowed
+  unfolding faultOf rightLength
   right-clean r = byBool (K (c .tag)) (λ k. rw (k, r k .sized, r k .fresh, r k .coded)) (λ k. rw k)
 
 -- whether a tag is among others

@@ -3,13 +3,13 @@
 -- Assumes nothing.
 use Prim.Native.Nat.{ℕ, _≤_}
 use mathlib.Core.Path.{_≡_, refl, ap, sym, _∙_}
-use mathlib.Core.Bool.{Bool, true, false, _&&_}
+use mathlib.Core.Bool.{Bool, true, false, cond, _&&_}
 use mathlib.Core.List.{List, [], _∷_}
 use lib.ListN.{length}
 use lib.Dec.{eqb}
-use borrow.Author.Tests.{le-ltb}
+use borrow.Author.Tests.{le-ltb, ne-eqb}
 use lib.Arith.{digits-mod}
-use Rattle.base.proofs.Cases.{byBool, never, clash}
+use Rattle.base.proofs.Cases.{byBool, byEq, never, clash}
 use Rattle.base.specs.Every.{Each}
 use Rattle.base.proofs.Every.{both-left}
 use Rattle.refusal.specs.Answer.{given, map}
@@ -26,27 +26,28 @@ use Rattle.packet.specs.Structure.{structure}
 use Rattle.packet.specs.Judge.{Knowing, Judged, fine, faulty, noVersion, judge}
 use Rattle.packet.specs.Verdict.{placed, verdict}
 use Rattle.packet.specs.Encode.{encode, canonical}
-use Rattle.rows.specs.Meaning.{shapeFor, meaningOf, kindOf, kindFor, codeOf, isNumber, saidBy, markCode}
+use Rattle.rows.specs.Meaning.{shapeFor, valueAs, meaningOf, kindOf, kindFor, codeOf, isNumber, saidBy, markCode}
 use Rattle.rows.specs.declared.RowWords.{RowWords}
 use Rattle.rows.specs.Taken.{partLength, rowSays, GoodRow}
 use Rattle.rows.proofs.Laws.{kind-seen}
 use Rattle.packet.specs.Rows.{rowOf, rowsOf, bytesAt, pieceOf, piecesOf, tableOf, lentVerdict, Filled, filledBy, readAnswer, tableBy, readTable, rowsIn}
 use Rattle.packet.specs.Rows.{SameRow, SameTable, noRows, oneMore}
 use Rattle.laws.specs.Receivers.{SameReading, bothRefuse, bothRead}
-use Rattle.laws.proofs.Present.{same-present}
+use Rattle.laws.proofs.Present.{same-present, same-withdrawn}
 use Rattle.laws.proofs.Accepted.{accepts, accepting}
 use Rattle.laws.proofs.Written.{sumPiece, SameBut, atLast, further, but-length, judged-alike, length-pieces}
 use Rattle.laws.proofs.Written.{Sendable, ReadBack, read-back, written-accepted}
 use Rattle.laws.proofs.Forward.{canonical-is, canonical-back}
 use Rattle.laws.proofs.Tables.{has-read, rows-in-table}
 use Rattle.laws.proofs.Rows.{Made, all-made, rows-good}
-use Rattle.laws.proofs.Sent.{Lies, formed-lie, bytes-back, rows-pieces, sentOn, sent-canonical}
+use Rattle.laws.proofs.Sent.{Lies, formed-lie, none-spelled, bytes-back, rows-pieces, sentOn, sent-canonical}
 
 -- a number's row points at nothing
-number-row : {A : Type 0} (least most : ℕ) (marked : Bool) (code kind c size : ℕ) (a : A) → kind ≡ kindFor (Number least most marked) code
-    → isNumber (saidBy kind c size a) ≡ true
-number-row least most marked code kind c size a e =
-    byBool (marked && eqb code (markCode most)) (λ m. rw (e, m)) (λ m. rw (e, m))
+number-row : {A : Type 0} (least most : ℕ) (marked : Bool) (code n kind c size : ℕ) (a : A) → (n ≡ 0 → ⊥)
+    → kind ≡ kindFor (Number least most marked) code n → isNumber (saidBy kind c size a) ≡ true
+number-row least most marked code n kind c size a some e =
+    let k : kind ≡ kindOf (valueAs {A = Unit {0}} (Number least most marked) code n tt) = rw (ne-eqb n 0 some) at e in
+    byBool (marked && eqb code (markCode most)) (λ m. rw (k, m)) (λ m. rw (k, m))
 
 module _ (K : Knowing) (b q : List ℕ) where
   row-size : (j : Item) → Lies q j → partLength (rowOf K j .part) ≡ length (j .piece .value)
@@ -68,26 +69,44 @@ module _ (K : Knowing) (b q : List ℕ) where
       pointed : (s : Shape) → shapeFor K (r .tag) ≡ s → isNumber (rowSays r) ≡ false → bytesAt b r ≡ pieceOf K b r .value
       pointed (Number least most marked) f h =
           let v : List ℕ = pieceOf K b r .value in
-          let k : r .kind ≡ kindFor (Number least most marked) (valueOf v) =
+          let k : r .kind ≡ kindFor (Number least most marked) (valueOf v) (length v) =
           m .kind ∙ (ap (λ s. kindOf (meaningOf s v)) f ∙ kind-seen (length v) v (Number least most marked) (valueOf v)) in
-          clash (sym (number-row least most marked (valueOf v) (r .kind) _ _ _ k) ∙ h)
+          byEq (partLength (r .part)) 0
+          (λ z. rw (f, z) (sym (none-spelled (r .code))))
+          (λ some. clash (sym (number-row least most marked (valueOf v) (length v) (r .kind) _ _ _ (λ z. some (m .size ∙ z)) k) ∙ h))
       pointed Text f h = rw f
       pointed Absent f h = rw f
+
+  -- the kind of a value at a tag; that of the checksum goes by the length alone
+  abbrev kindAt : List ℕ → ℕ → ℕ
+  kindAt v t = kindOf (meaningOf (shapeFor K t) v)
+
+  sum-kind : (v : List ℕ) → K 1 ≡ true → kindAt v 1 ≡ cond (eqb (length v) 0) 5 1
+  unfolding shapeFor shapeOf itemOf itemIn groups member
+  sum-kind v k = rw k (byBool (eqb (length v) 0) (λ z. rw z) (λ z. rw z))
 
   -- the checksum's row
   sum-row : (r : RowWords) (j : Item) (v w : List ℕ) → K 1 ≡ true → Made K b r → Lies q j → length v ≡ length w
       → pieceOf K b r ≡ sumPiece v → j .piece ≡ sumPiece w → SameRow b q r (rowOf K j)
-  unfolding pieceOf rowOf shapeFor shapeOf itemOf itemIn groups member
+  unfolding pieceOf rowOf
   sum-row r j v w k m l e f g =
       let one : r .tag ≡ 1 = ap (λ (c : Piece). c .tag) f in
       let one′ : j .piece .tag ≡ 1 = ap (λ (c : Piece). c .tag) g in
-      let reading : r .kind ≡ 1 = m .kind ∙ rw (one, k) in
+      let v′ : List ℕ = pieceOf K b r .value in
+      let w′ : List ℕ = j .piece .value in
+      let same : length v′ ≡ length w′ =
+      ap (λ (c : Piece). length (c .value)) f ∙ (e ∙ sym (ap (λ (c : Piece). length (c .value)) g)) in
+      let size : partLength (r .part) ≡ partLength (rowOf K j .part) = m .size ∙ (same ∙ sym (row-size j l)) in
       record {
         tag = one ∙ sym one′;
-        kind = reading ∙ rw (one′, k);
+        kind = m .kind ∙ (ap (kindAt v′) one ∙ (sum-kind v′ k ∙ (ap (λ n. cond (eqb n 0) 5 1) same ∙ sym (ap (kindAt w′) one′ ∙ sum-kind w′ k))));
         code = λ other. absurd (other one);
-        size = m .size ∙ (ap (λ (c : Piece). length (c .value)) f ∙ (e ∙ (sym (ap (λ (c : Piece). length (c .value)) g) ∙ sym (row-size j l))));
-        value = λ h. clash (sym (rw reading) ∙ h);
+        size = size;
+        value = λ h. byEq (partLength (r .part)) 0
+            (λ z. rw (z, sym size ∙ z))
+            (λ some.
+            let reading : r .kind ≡ 1 = m .kind ∙ (ap (kindAt v′) one ∙ (sum-kind v′ k ∙ rw (ne-eqb (length v′) 0 (λ z. some (m .size ∙ z))))) in
+            clash (sym (rw reading) ∙ h));
       }
 
   -- rows, and the rows of their pieces, the checksum's value aside
@@ -167,7 +186,7 @@ module _ (K : TagSet) (p t t′ : List ℕ) (is : List Item) (by : Bytes p) (fou
           let same = sent-table (holds K) p is by (knows-sum K g) found f in
           let rows : SameTable p (encode (pieces is)) (rowsIn 0 n (tableOf (holds K) is t)) (rowsIn 0 n (tableOf (holds K) (sent .items) t′)) =
           rw (rows-in-table (holds K) is t n refl, rows-in-table (holds K) (sent .items) t′ n count) same in
-          rw (count, ← (same-present p (encode (pieces is)) same)) (bothRead rows)
+          rw (count, ← (same-present p (encode (pieces is)) same), ← (same-withdrawn p (encode (pieces is)) same)) (bothRead rows)
       go g (faulty k n u) f = bothRefuse
       go g noVersion f = bothRefuse
 

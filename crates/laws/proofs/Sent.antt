@@ -4,18 +4,18 @@
 use Prim.Native.Nat.{ℕ, suc, _+_, _<_, _≤_}
 use native.Mathlib.Omega.{arith}
 use mathlib.Core.Path.{_≡_, refl, ap, sym, _∙_}
-use mathlib.Core.Bool.{Bool, true}
+use mathlib.Core.Bool.{true}
 use mathlib.Core.List.{List, [], _∷_}
 use lib.ListN.{length, take, drop}
 use lib.Seq.{take-at, drop-drop}
 use lib.Arith.{digits-div, digits-mod}
 use borrow.Author.Tests.{eqb-true}
-use Rattle.base.proofs.Cases.{byBool, never}
+use Rattle.base.proofs.Cases.{byBool, byEq, clash}
 use Rattle.base.specs.Every.{Each}
 use Rattle.refusal.specs.Answer.{given}
-use Rattle.number.specs.Stored.{Bytes, valueOf}
-use Rattle.number.proofs.Laws.{bytes-drop, bytes-take, spelled}
-use Rattle.catalogue.specs.Shapes.{shapeOf, shapeAllows, lengthAllowed}
+use Rattle.number.specs.Stored.{Bytes, valueOf, bytesOf}
+use Rattle.number.proofs.Laws.{bytes-drop, bytes-take, length-bytesOf, spelled}
+use Rattle.catalogue.specs.Shapes.{shapeOf, isListed, sizeAllowed, rightLength}
 use Rattle.catalogue.specs.declared.Shape.{Shape}
 use Rattle.catalogue.specs.declared.Shape.the-variants.{Text, Number, Absent}
 use Rattle.tagset.specs.Sets.{holds}
@@ -69,16 +69,24 @@ lies-bytes p i by l = rw (l .there) (bytes-take (length (i .piece .value)) (drop
 
 -- the length is allowed where the tag is known
 abbrev pub SizedFor : Knowing → Piece → Type 0
-SizedFor K c = K (c .tag) ≡ true → lengthAllowed (c .tag) (length (c .value)) ≡ true
+SizedFor K c = K (c .tag) ≡ true → rightLength (c .tag) (length (c .value)) ≡ true
 
--- a known number has an allowed length
-pub number-allowed : (K : Knowing) (c : Piece) (least most : ℕ) (marked : Bool) → SizedFor K c → shapeFor K (c .tag) ≡ Number least most marked
-    → shapeAllows (Number least most marked) (length (c .value)) ≡ true
-unfolding shapeFor lengthAllowed
-number-allowed K c least most marked sized e =
+-- by the shape that a receiver gives the tag
+pub shape-sized : (K : Knowing) (c : Piece) (s : Shape) → isListed s ≡ true → SizedFor K c → shapeFor K (c .tag) ≡ s
+    → sizeAllowed (c .tag) s (length (c .value)) ≡ true
+unfolding shapeFor rightLength
+shape-sized K c s l sized e =
     byBool (K (c .tag))
-    (λ k. let f : shapeOf (c .tag) ≡ Number least most marked = rw k at e in ap (λ s. shapeAllows s (length (c .value))) (sym f) ∙ sized k)
-    (λ k. let f : Absent ≡ Number least most marked = rw k at e in never (cc))
+    (λ k. let f : shapeOf (c .tag) ≡ s = rw k at e in ap (λ x. sizeAllowed (c .tag) x (length (c .value))) (sym f) ∙ sized k)
+    (λ k. let f : Absent ≡ s = rw k at e in clash (sym l ∙ ap isListed (sym f)))
+
+-- what has no bytes is empty
+no-bytes : (v : List ℕ) → length v ≡ 0 → v ≡ []
+no-bytes [] z = refl
+no-bytes (x ∷ v) z = absurd (omega arith)
+
+pub none-spelled : (x : ℕ) → bytesOf 0 x ≡ []
+none-spelled x = no-bytes (bytesOf 0 x) (length-bytesOf 0 x)
 
 -- a row's piece is the item's
 pub piece-back : (K : Knowing) (p : List ℕ) (i : Item) → Bytes p → Lies p i → pieceOf K p (rowOf K i) ≡ i .piece
@@ -88,7 +96,10 @@ piece-back K p i by l = ap (λ v. record { tag = i .piece .tag; value = v }) (ba
     back : (s : Shape) → shapeFor K (i .piece .tag) ≡ s → rowValue s p (rowOf K i) ≡ i .piece .value
     back (Number least most marked) e =
         let v : List ℕ = i .piece .value in
-        rw (e, code-seen _ v least most marked (valueOf v), digits-mod (i .place) (l .short)) (spelled v (length v) (valueOf v) (lies-bytes p i by l) refl refl)
+        byEq (length v) 0
+        (λ z. rw (digits-mod (i .place) (l .short), z) (none-spelled _ ∙ sym (no-bytes v z)))
+        (λ some. rw (e, code-seen _ v least most marked (valueOf v) some, digits-mod (i .place) (l .short))
+        (spelled v (length v) (valueOf v) (lies-bytes p i by l) refl refl))
     back Text e = bytes-back K p i l
     back Absent e = bytes-back K p i l
 

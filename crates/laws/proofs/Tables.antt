@@ -4,7 +4,7 @@ use Prim.Native.Nat.{ℕ, zero, suc, _+_, _-_, _*_, _<_, _≤_}
 use native.Mathlib.Omega.{arith}
 use native.Mathlib.Nat.{add-zero}
 use native.Mathlib.Numerals.{add-one}
-use mathlib.Core.Path.{_≡_, refl, ap, _∙_}
+use mathlib.Core.Path.{_≡_, refl, ap, ap₂, _∙_}
 use mathlib.Core.Bool.{true, false}
 use mathlib.Core.List.{List, [], _∷_, _++_}
 use lib.ListN.{length, getD}
@@ -13,7 +13,7 @@ use borrow.Author.Tests.{ltb-false, le-ltb}
 use Rattle.refusal.specs.Answer.{given, refused}
 use Rattle.refusal.proofs.Answers.{passed, missed, map-given, map-refused}
 use Rattle.number.specs.Stored.{Bytes}
-use Rattle.tagset.specs.Sets.{holds, meet}
+use Rattle.tagset.specs.Sets.{holds}
 use Rattle.tagset.specs.declared.TagSet.{TagSet}
 use Rattle.tagset.proofs.Laws.{Words, Included}
 use Rattle.knowing.proofs.Laws.{good-means}
@@ -25,10 +25,10 @@ use Rattle.packet.specs.Allowed.{Allowed}
 use Rattle.rows.specs.Meaning.{shapeFor}
 use Rattle.rows.specs.Taken.{rowAt}
 use Rattle.packet.specs.Rows.{rowOf, rowsOf, words, tableOf, lentVerdict, Filled, filledBy, readAnswer, tableBy, readTable, rowsIn}
-use Rattle.laws.specs.Receivers.{Below, Only, carried, SmallerRow}
+use Rattle.laws.specs.Receivers.{Below, Only, carried, SmallerRow, filledWithin}
 use Rattle.laws.proofs.Accepted.{accepted-allowed, allowed-accepted}
 use Rattle.laws.proofs.Receivers.{larger-accepts, larger-refuses}
-use Rattle.laws.proofs.Present.{smaller-present}
+use Rattle.laws.proofs.Present.{smaller-present, smaller-withdrawn}
 
 abbrev itemIn : List Item → ℕ → Item
 itemIn is k = getD is k (record { start = 0; place = 0; piece = record { tag = 0; value = [] } })
@@ -172,14 +172,15 @@ module _ (K K′ : TagSet) (g : good K ≡ true) (g′ : good K′ ≡ true) (wi
   smaller done r = larger-accepts (holds K) (holds K′) (within .each) p (r .items) (r .accepted)
 
   -- a packet that the larger accepts the smaller accepts, with as many rows, and those of its words that it knows
-  pub read-larger : Words K → Words K′ → (done : Filled) → readAnswer K′ p t′ ≡ given done
-      → readAnswer K p t ≡ given (record { count = done .count; present = meet (done .present) K })
+  pub read-larger : Words K → Words K′ → (done : Filled) → readAnswer K′ p t′ ≡ given done → readAnswer K p t ≡ given (filledWithin K done)
   read-larger w w′ done e =
       let r = has-read K′ p t′ done e in
-      let words = smaller-present K K′ w w′ (good-means K w g) (good-means K′ w′ g′) within (r .items) in
+      let knows = good-means K w g in
+      let knows′ = good-means K′ w′ g′ in
       answer-given K p t g long (r .items) (smaller done r)
-      ∙ (ap (λ s. given (record { count = length (r .items); present = s })) words
-      ∙ ap (λ f. given (record { count = f .count; present = meet (f .present) K })) (r .filled))
+      ∙ (ap₂ (λ s u. given (record { count = length (r .items); present = s; withdrawn = u }))
+      (smaller-present K K′ w w′ knows knows′ within (r .items)) (smaller-withdrawn K K′ w w′ knows knows′ within (r .items))
+      ∙ ap (λ f. given (filledWithin K f)) (r .filled))
 
   -- the same row for every item whose tag the smaller knows, a carried one with the same place and length for every other
   pub read-rows : (done : Filled) (k : ℕ) → readAnswer K′ p t′ ≡ given done → k < done .count

@@ -4,6 +4,8 @@ use mathlib.Core.Path.{_≡_}
 use mathlib.Core.Bool.{true, false}
 use mathlib.Core.List.{List}
 use Rattle.refusal.specs.Answer.{Answer, given, refused}
+use Rattle.tagset.specs.Sets.{meet}
+use Rattle.tagset.specs.declared.TagSet.{TagSet}
 use Rattle.rows.specs.Meaning.{carriedKind}
 use Rattle.rows.specs.declared.RowWords.{RowWords}
 use Rattle.packet.specs.Judge.{Knowing}
@@ -26,6 +28,10 @@ carried r = record { tag = r .tag; kind = carriedKind; code = 0; part = r .part 
 pub record SmallerRow (K : Knowing) (r r′ : RowWords) : Type 0 where
   pub known : K (r′ .tag) ≡ true → r ≡ r′
   pub unknown : K (r′ .tag) ≡ false → r ≡ carried r′
+
+-- as many rows, and of the words what lies within a knowing set
+abbrev pub filledWithin : TagSet → Filled → Filled
+filledWithin K f = record { count = f .count; present = meet (f .present) K; withdrawn = meet (f .withdrawn) K }
 
 -- two readings up to places: the same refusal and tag, or the same count and the same table
 pub data SameReading (p q : List ℕ) : Answer Filled → List ℕ → Answer Filled → List ℕ → Type 0 where

@@ -32,7 +32,7 @@ use Rattle.laws.proofs.Sent.{Lies, bytes-back, formed-lie}
 use Rattle.spelling.specs.Spelling.{decimal, whole}
 use Rattle.spelling.proofs.Digits.{decimal-few}
 use Rattle.spelling.proofs.Laws.{decimal-short, hex-length}
-use Rattle.listing.specs.Lines.{header, numberWord, markWord, textWord, carriedWord, refusedWord}
+use Rattle.listing.specs.Lines.{header, numberWord, markWord, textWord, carriedWord, withdrawnWord, refusedWord}
 use Rattle.listing.specs.Lines.{field, numberText, contentText, lineOf, linesOf, refusedLine}
 use Rattle.listing.specs.Listing.{textBy, listingOf, largest}
 
@@ -54,7 +54,7 @@ number-most (given h) code = whole-most (h .value)
 number-most (refused n p t) code = omega (arith, decimal-few code)
 
 content-short : (p : List ℕ) (r : RowWords) → length (contentText p r) ≤ 28 + 2 * length (bytesAt p r)
-unfolding contentText numberWord markWord textWord carriedWord
+unfolding contentText numberWord markWord textWord carriedWord withdrawnWord
 content-short p r =
     byEq (r .kind) 1
     (λ e. rw (e, length-append) (omega (arith, number-most (toHouse (r .tag) (partLength (r .part)) (r .code)) (r .code))))
@@ -62,7 +62,9 @@ content-short p r =
     (λ f. rw f (omega arith))
     (λ f. byEq (r .kind) 3
     (λ g. rw (g, length-append) (omega (arith, hex-length (bytesAt p r))))
-    (λ g. rw (says-carried (r .kind) (r .code) (partLength (r .part)) (partOf (r .part)) e f g, length-append) (omega (arith, hex-length (bytesAt p r))))))
+    (λ g. byEq (r .kind) 5
+    (λ h. rw h (omega arith))
+    (λ h. rw (says-carried (r .kind) (r .code) (partLength (r .part)) (partOf (r .part)) e f g h, length-append) (omega (arith, hex-length (bytesAt p r)))))))
 
 content-most : (p : List ℕ) (r : RowWords) → length (contentText p r) ≤ 131098
 content-most p r =

@@ -14,7 +14,7 @@ use Rattle.rows.specs.Meaning.{Meaning, mapMeaning}
 use Rattle.rows.specs.declared.RowWords.{RowWords}
 use Rattle.rows.specs.Taken.{partPlace, partLength, rowSays}
 use Rattle.rows.specs.declared.Part.{Part}
-use Rattle.rows.proofs.Laws.{says-reading, says-mark, says-text, says-carried}
+use Rattle.rows.proofs.Laws.{says-reading, says-mark, says-text, says-withdrawn, says-carried}
 use Rattle.packet.specs.Rows.{bytesAt}
 use Rattle.scale.specs.Conversions.{toHouse}
 use Rattle.scale.specs.Said.{houseSaid}
@@ -23,7 +23,7 @@ use Rattle.scale.specs.declared.ToHouse.{ToHouse}
 use Rattle.scale.specs.declared.ToHouse.the-variants.{Is}
 use Rattle.spelling.specs.Spelling.{decimal, whole, hex}
 use Rattle.spelling.proofs.Laws.{hex-length}
-use Rattle.listing.specs.Lines.{numberWord, markWord, textWord, carriedWord, field, numberText, meaningText, bytesIn, contentText, lineOf}
+use Rattle.listing.specs.Lines.{numberWord, markWord, textWord, carriedWord, withdrawnWord, field, numberText, meaningText, bytesIn, contentText, lineOf}
 use Rattle.listing.specs.code.Listable.{InPacket}
 
 -- a reading, by what the conversion answers
@@ -52,6 +52,13 @@ module _ (p : List ℕ) (r : RowWords) where
   unfolding numberWord
   number-length e = sym (length-append numberWord (numberText (toHouse (r .tag) (partLength (r .part)) (r .code)) (r .code))) ∙ ap length (number-content e)
 
+  pub withdrawn-content : r .kind ≡ 5 → withdrawnWord ≡ contentText p r
+  withdrawn-content e = by-saying (says-withdrawn _ _ _ _ e)
+
+  pub withdrawn-length : r .kind ≡ 5 → 10 ≡ length (contentText p r)
+  unfolding withdrawnWord
+  withdrawn-length e = ap length (withdrawn-content e)
+
   module _ (n : r .kind ≡ 1 → ⊥) where
     pub mark-content : r .kind ≡ 2 → markWord ≡ contentText p r
     mark-content e = by-saying (says-mark _ _ _ _ n e)
@@ -64,8 +71,8 @@ module _ (p : List ℕ) (r : RowWords) where
       pub text-content : r .kind ≡ 3 → textWord ++ hex (bytesAt p r) ≡ contentText p r
       text-content e = by-saying (says-text _ _ _ _ n m e)
 
-      pub carried-content : (r .kind ≡ 3 → ⊥) → carriedWord ++ hex (bytesAt p r) ≡ contentText p r
-      carried-content k = by-saying (says-carried _ _ _ _ n m k)
+      pub carried-content : (r .kind ≡ 3 → ⊥) → (r .kind ≡ 5 → ⊥) → carriedWord ++ hex (bytesAt p r) ≡ contentText p r
+      carried-content k w = by-saying (says-carried _ _ _ _ n m k w)
 
       module _ (h : InPacket p r) where
         bytes-length : length (hex (bytesAt p r)) ≡ 2 * partLength (r .part)
@@ -78,9 +85,10 @@ module _ (p : List ℕ) (r : RowWords) where
         unfolding textWord
         text-length e = ap (λ k. 5 + k) (sym bytes-length) ∙ (sym (length-append textWord (hex (bytesAt p r))) ∙ ap length (text-content e))
 
-        pub carried-length : (r .kind ≡ 3 → ⊥) → 8 + 2 * partLength (r .part) ≡ length (contentText p r)
+        pub carried-length : (r .kind ≡ 3 → ⊥) → (r .kind ≡ 5 → ⊥) → 8 + 2 * partLength (r .part) ≡ length (contentText p r)
         unfolding carriedWord
-        carried-length k = ap (λ k. 8 + k) (sym bytes-length) ∙ (sym (length-append carriedWord (hex (bytesAt p r))) ∙ ap length (carried-content k))
+        carried-length k w =
+            ap (λ k. 8 + k) (sym bytes-length) ∙ (sym (length-append carriedWord (hex (bytesAt p r))) ∙ ap length (carried-content k w))
 
   pub line-length : {place tag content : ℕ} → place ≡ length (decimal (partPlace (r .part))) → tag ≡ length (decimal (r .tag))
       → content ≡ length (contentText p r) → place + tag + 2 + content + 1 ≡ length (lineOf p r)

@@ -3,7 +3,7 @@ use Prim.Native.Nat.{ℕ}
 use mathlib.Core.List.{List, [], _∷_, _++_}
 use lib.ListN.{take, drop}
 use Rattle.refusal.specs.Answer.{Answer, given, refused}
-use Rattle.rows.specs.Meaning.{Meaning, reading, mark, text, carried, mapMeaning}
+use Rattle.rows.specs.Meaning.{Meaning, reading, mark, text, carried, withdrawn, mapMeaning}
 use Rattle.rows.specs.declared.RowWords.{RowWords}
 use Rattle.rows.specs.Taken.{partPlace, rowSays}
 use Rattle.rows.specs.declared.Part.{Part}
@@ -16,7 +16,7 @@ unfoldable pub header : List ℕ
 header =
     0x70 ∷ 0x6C ∷ 0x61 ∷ 0x63 ∷ 0x65 ∷ 0x09 ∷ 0x74 ∷ 0x61 ∷ 0x67 ∷ 0x09 ∷ 0x6B ∷ 0x69 ∷ 0x6E ∷ 0x64 ∷ 0x09 ∷ 0x76 ∷ 0x61 ∷ 0x6C ∷ 0x75 ∷ 0x65 ∷ 0x0A ∷ []
 
--- "Kinds are number, mark, text, carried.", and "refused", each with the tab after it; after "mark" the "-" of its value
+-- "Kinds are number, mark, text, carried.", W-204's "withdrawn", and "refused", each with the tab after it; after "mark" the "-" of its value
 unfoldable pub numberWord : List ℕ
 numberWord = 0x6E ∷ 0x75 ∷ 0x6D ∷ 0x62 ∷ 0x65 ∷ 0x72 ∷ 0x09 ∷ []
 
@@ -28,6 +28,9 @@ textWord = 0x74 ∷ 0x65 ∷ 0x78 ∷ 0x74 ∷ 0x09 ∷ []
 
 unfoldable pub carriedWord : List ℕ
 carriedWord = 0x63 ∷ 0x61 ∷ 0x72 ∷ 0x72 ∷ 0x69 ∷ 0x65 ∷ 0x64 ∷ 0x09 ∷ []
+
+unfoldable pub withdrawnWord : List ℕ
+withdrawnWord = 0x77 ∷ 0x69 ∷ 0x74 ∷ 0x68 ∷ 0x64 ∷ 0x72 ∷ 0x61 ∷ 0x77 ∷ 0x6E ∷ 0x09 ∷ []
 
 unfoldable pub refusedWord : List ℕ
 refusedWord = 0x72 ∷ 0x65 ∷ 0x66 ∷ 0x75 ∷ 0x73 ∷ 0x65 ∷ 0x64 ∷ 0x09 ∷ []
@@ -47,12 +50,13 @@ abbrev pub numberText : Answer House → ℕ → List ℕ
 numberText (given h) code = whole (h .value)
 numberText (refused n p t) code = decimal code
 
--- kind and value: "a mark prints "-"; text and carried print upper-case hex, nothing if empty"
+-- kind and value: "a mark prints "-"; text and carried print upper-case hex, nothing if empty"; W-204: "kind "withdrawn" and nothing after the tab"
 abbrev pub meaningText : ℕ → Meaning (List ℕ) → List ℕ
 meaningText tag (reading code size) = numberWord ++ numberText (toHouse tag size code) code
 meaningText tag (mark code size) = markWord
 meaningText tag (text bytes) = textWord ++ hex bytes
 meaningText tag (carried bytes) = carriedWord ++ hex bytes
+meaningText tag withdrawn = withdrawnWord
 
 -- text and carried bytes as they stand in the packet
 abbrev pub bytesIn : List ℕ → Part → List ℕ

@@ -59,6 +59,9 @@ fn content_size(packet: &[u8], row: RowWords) -> usize
     if row.kind == rows::TEXT {
         return 5 + 2 * bytes;
     }
+    if row.kind == rows::WITHDRAWN {
+        return 10;
+    }
     8 + 2 * bytes
 }
 
@@ -147,6 +150,9 @@ fn put_content(out: &mut [u8], at: usize, packet: &[u8], row: RowWords) -> usize
     if row.kind == rows::TEXT {
         let value = put_word(out, at, b"text\t");
         return put_value(out, value, packet, row);
+    }
+    if row.kind == rows::WITHDRAWN {
+        return put_word(out, at, b"withdrawn\t");
     }
     let value = put_word(out, at, b"carried\t");
     put_value(out, value, packet, row)

@@ -6,29 +6,29 @@ use mathlib.Core.Bool.{true}
 use Rattle.base.proofs.Cases.{byBool, never}
 use Rattle.tagset.specs.Sets.{holds}
 use Rattle.tagset.specs.declared.TagSet.{TagSet}
-use Rattle.catalogue.specs.Shapes.{shapeOf, shapeAllows}
+use Rattle.catalogue.specs.Shapes.{shapeOf, isListed, sizeAllowed}
 use Rattle.catalogue.specs.declared.Shape.{Shape}
 use Rattle.catalogue.specs.declared.Shape.the-variants.{Text, Number, Absent}
 use Rattle.rows.specs.Meaning.{shapeFor}
 use Rattle.rows.specs.declared.RowWords.{RowWords}
 use Rattle.rows.specs.Taken.{partLength, rowGood}
 use Rattle.rows.specs.Present.{isPresent}
-use Rattle.rows.proofs.Present.{isShaped, good-shaped}
+use Rattle.rows.proofs.Present.{good-listed}
 use Rattle.packet.specs.Judge.{clean, wrong}
 use Rattle.outgoing.specs.code.Staged.{rowFault}
 
-allows-shaped : (s : Shape) (n : ℕ) → shapeAllows s n ≡ true → isShaped s ≡ true
-allows-shaped (Number least most marked) n e = refl
-allows-shaped Text n e = refl
-allows-shaped Absent n e = e
+sized-listed : (t n : ℕ) (s : Shape) → sizeAllowed t s n ≡ true → isListed s ≡ true
+sized-listed t n (Number least most marked) e = refl
+sized-listed t n Text e = refl
+sized-listed t n Absent e = e
 
 pub clean-present : (K seen : TagSet) (room : ℕ) (r : RowWords) → rowGood (shapeFor (holds K) (r .tag)) room r ≡ true → rowFault K seen r ≡ clean
     → isPresent r ≡ holds K (r .tag)
 unfolding shapeFor rowFault
 clean-present K seen room r g f =
-    good-shaped (shapeFor (holds K) (r .tag)) room r g
+    good-listed (shapeFor (holds K) (r .tag)) room r g
     ∙ byBool (holds K (r .tag))
-    (λ k. rw k (byBool (shapeAllows (shapeOf (r .tag)) (partLength (r .part)))
-    (allows-shaped (shapeOf (r .tag)) (partLength (r .part)))
+    (λ k. rw k (byBool (sizeAllowed (r .tag) (shapeOf (r .tag)) (partLength (r .part)))
+    (sized-listed (r .tag) (partLength (r .part)) (shapeOf (r .tag)))
     (λ a. let z : wrong 12 ≡ clean = rw (k, a) at f in never (cc))))
     (λ k. rw k)

@@ -7,7 +7,7 @@ use mathlib.Core.Bool.{true, false}
 use mathlib.Core.List.{List, [], _∷_}
 use lib.ListN.{length, length-append}
 use borrow.Author.Tests.{ne-eqb}
-use Rattle.base.proofs.Cases.{byBool, byLt, clash}
+use Rattle.base.proofs.Cases.{byBool, byLt, byEq, clash}
 use Rattle.base.specs.Every.{Each}
 use Rattle.refusal.specs.Answer.{Answer, given, refused, map, then}
 use Rattle.refusal.proofs.Answers.{passed}
@@ -18,11 +18,11 @@ use Rattle.tagset.proofs.Laws.{Words, holds-none}
 use Rattle.knowing.specs.Good.{good}
 use Rattle.catalogue.specs.Extended.{isExtended}
 use Rattle.catalogue.specs.Shapes.{codesLimited, codeAllowed}
-use Rattle.catalogue.proofs.Columns.{limited-number, codes-free}
+use Rattle.catalogue.proofs.Columns.{limited-number, codes-free, no-code}
 use Rattle.rows.proofs.Laws.{code-seen}
 use Rattle.rows.specs.Meaning.{shapeFor}
 use Rattle.rows.specs.declared.RowWords.{RowWords}
-use Rattle.rows.specs.Taken.{rowGood, tagShown, countGood, rowAt, GoodRow}
+use Rattle.rows.specs.Taken.{partLength, rowGood, tagShown, countGood, rowAt, GoodRow}
 use Rattle.rows.specs.Present.{presentIn}
 use Rattle.packet.specs.Pieces.{Piece}
 use Rattle.packet.specs.Ends.{rightEnds}
@@ -133,27 +133,32 @@ module _ (K : TagSet) (w : Words K) (b : List ℕ) where
   Good r = GoodRow (holds K) b r
 
   -- the items whose codes are limited are numbers
-  limited-code : (r : RowWords) → Good r → holds K (r .tag) ≡ true → codesLimited (r .tag) ≡ true → r .code ≡ valueOf (pieceOf (holds K) b r .value)
+  limited-code : (r : RowWords) → Good r → holds K (r .tag) ≡ true → codesLimited (r .tag) ≡ true → (partLength (r .part) ≡ 0 → ⊥)
+      → r .code ≡ valueOf (pieceOf (holds K) b r .value)
   unfolding shapeFor codesLimited isExtended
-  limited-code r g k l =
+  limited-code r g k l some =
       let q = limited-number (r .tag) l in
       let v : List ℕ = pieceOf (holds K) b r .value in
-      rw (k, q .same) at (good-made (holds K) b r g .code (λ one. clash (sym (rw one at l))))
-      ∙ code-seen (length v) v (q .least) (q .most) (q .marked) (valueOf v)
+      let made = good-made (holds K) b r g in
+      rw (k, q .same) at (made .code (λ one. clash (sym (rw one at l))))
+      ∙ code-seen (length v) v (q .least) (q .most) (q .marked) (valueOf v) (λ z. some (made .size ∙ z))
 
-  same-code : (r : RowWords) → Good r → holds K (r .tag) ≡ true → (n : ℕ)
-      → codeAllowed (r .tag) n (r .code) ≡ codeAllowed (r .tag) n (valueOf (pieceOf (holds K) b r .value))
-  same-code r g k n =
-      byBool (codesLimited (r .tag))
-      (λ l. ap (codeAllowed (r .tag) n) (limited-code r g k l))
-      (λ l. codes-free (r .tag) n (r .code) l ∙ sym (codes-free (r .tag) n _ l))
+  same-code : (r : RowWords) → Good r → holds K (r .tag) ≡ true
+      → codeAllowed (r .tag) (partLength (r .part)) (r .code) ≡ codeAllowed (r .tag) (partLength (r .part)) (valueOf (pieceOf (holds K) b r .value))
+  same-code r g k =
+      let n = partLength (r .part) in
+      byEq n 0
+      (λ z. rw z (no-code (r .tag) (r .code) ∙ sym (no-code (r .tag) _)))
+      (λ some. byBool (codesLimited (r .tag))
+      (λ l. ap (codeAllowed (r .tag) n) (limited-code r g k l some))
+      (λ l. codes-free (r .tag) n (r .code) l ∙ sym (codes-free (r .tag) n _ l)))
 
   same-fault : (seen : TagSet) (ts : List ℕ) (r : RowWords) → Good r → SeenBy seen ts → rowFault K seen r ≡ faultOf (holds K) (among ts) (pieceOf (holds K) b r)
   unfolding rowFault faultOf pieceOf
   same-fault seen ts r g s =
       byLt (r .tag) 128
       (λ h. byBool (holds K (r .tag))
-      (λ k. rw (k, same-code r g k _, good-made (holds K) b r g .size, s .each (r .tag) h))
+      (λ k. rw (k, same-code r g k, good-made (holds K) b r g .size, s .each (r .tag) h))
       (λ k. rw k))
       (λ h. rw (holds-none K w (r .tag) h))
 

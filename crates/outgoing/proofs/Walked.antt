@@ -17,7 +17,7 @@ use Rattle.catalogue.specs.declared.Shape.{Shape}
 use Rattle.rows.specs.Meaning.{shapeFor}
 use Rattle.rows.specs.declared.RowWords.{RowWords}
 use Rattle.rows.specs.Taken.{partLength, rowGood, tagShown, rowAt}
-use Rattle.rows.specs.Present.{withRow, presentFrom}
+use Rattle.rows.specs.Present.{isPresent, withRow, wordsFrom}
 use Rattle.packet.specs.Judge.{Knowing, Fault, clean, wrong}
 use Rattle.laws.proofs.Tables.{rows-from, rows-none}
 use Rattle.packet.specs.Rows.{rowsIn}
@@ -76,8 +76,9 @@ module _ (words : List ℕ) (count n : ℕ) where
             let g′ : rowGood (shapeFor K (r .tag)) room r ≡ false = rw shape at g in
             rw (rows-from words n count h, ← same, g′)
 
-      pub words-more : (s : TagSet) → presentFrom s (rowsIn n (count - n) words) ≡ presentFrom (withRow s r) (rowsIn (n + 1) (count - (n + 1)) words)
-      unfolding presentFrom
+      pub words-more : (s : TagSet)
+          → wordsFrom isPresent s (rowsIn n (count - n) words) ≡ wordsFrom isPresent (withRow isPresent s r) (rowsIn (n + 1) (count - (n + 1)) words)
+      unfolding wordsFrom
       words-more s = rw (rows-from words n count h, ← same)
 
       module _ (K seen : TagSet) where
@@ -97,8 +98,8 @@ module _ (words : List ℕ) (count n : ℕ) where
   unfolding rowsSize
   size-end h = rw (rows-none words n count h)
 
-  pub words-end : (s : TagSet) → count ≤ n → presentFrom s (rowsIn n (count - n) words) ≡ s
-  unfolding presentFrom
+  pub words-end : (s : TagSet) → count ≤ n → wordsFrom isPresent s (rowsIn n (count - n) words) ≡ s
+  unfolding wordsFrom
   words-end s h = rw (rows-none words n count h)
 
   pub good-end : (K : Knowing) (room : ℕ) → count ≤ n → rightRows K room n (rowsIn n (count - n) words) ≡ given tt

@@ -11,6 +11,7 @@ ghost use Rattle.catalogue.specs.Extended.{isExtended};
 ghost use Rattle.catalogue.specs.Shapes.{shapeOf};
 ghost use Rattle.catalogue.specs.code.Column.{shapeColumn};
 ghost use Rattle.rows.specs.Present.{presentIn};
+ghost use Rattle.rows.specs.Taken.{partLength};
 ghost use Rattle.packet.specs.Said.{faultSaid};
 ghost use Rattle.packet.specs.Said.{rightSaid};
 ghost use Rattle.packet.specs.Rows.{rowsIn};
@@ -282,6 +283,22 @@ fn known_size(shape: Shape, room: usize, row: RowWords) -> usize
     0
 }
 
+// The same of a row of some bytes.
+fn value_size(shape: Shape, room: usize, row: RowWords) -> usize
+    requires { ⌜ (partLength (row .part) ≡ 0 → ⊥) ⌝ }
+    ensures { λ r. ⌜ (0 < r → PlainAs shape room row r) ⌝ }
+{
+    let size = (row.part % 65536) as usize;
+    if rows::is_good_value_row(shape, room, row) {
+        if catalogue::allows_length(shape, size) {
+            if catalogue::allows_code(row.tag, size, row.code) {
+                return row_size(row);
+            }
+        }
+    }
+    0
+}
+
 // The same of a row of an extended height, whatever the buffer: a code within reach has a right length and is not too wide for it.
 fn height_size(row: RowWords) -> usize
     requires { ⌜ isExtended (row .tag) ≡ true ⌝ }
@@ -296,7 +313,8 @@ fn height_size(row: RowWords) -> usize
     0
 }
 
-// The same of any row, for a receiver that has seen some tags; each shape by itself, so that its tests go by a shape that is settled.
+// The same of any row, for a receiver that has seen some tags; numbers by themselves, which most rows are, so that their tests go by a shape that is
+// settled and stand in the walk.
 fn plain_size(column: &[u8; 128], known: TagSet, seen: TagSet, room: usize, row: RowWords) -> usize
     requires { ⌜ now column ≡ shapeColumn ⌝ }
     ensures { λ r. ⌜ (0 < r → Plain known seen room row r) ⌝ }
@@ -305,6 +323,10 @@ fn plain_size(column: &[u8; 128], known: TagSet, seen: TagSet, room: usize, row:
     if tagset::has(known, tag) {
         if tagset::has(seen, tag) {
             return 0;
+        }
+        if row.part % 65536 == 0 {
+            let shape = catalogue::shape_at(column, tag);
+            return known_size(shape, room, row);
         }
         if catalogue::is_extended(tag) {
             return height_size(row);
@@ -320,13 +342,13 @@ fn plain_size(column: &[u8; 128], known: TagSet, seen: TagSet, room: usize, row:
                     most,
                     marked,
                 };
-                known_size(shape, room, row)
+                value_size(shape, room, row)
             }
             Shape::Text => known_size(Shape::Text, room, row),
             Shape::Absent => 0,
         };
     }
-    if rows::is_good_row(Shape::Absent, room, row) {
+    if rows::is_good_value_row(Shape::Absent, room, row) {
         return row_size(row);
     }
     0

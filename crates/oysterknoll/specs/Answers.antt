@@ -41,7 +41,7 @@ use Rattle.oysterknoll.specs.declared.ItemAnswer.{ItemAnswer}
 
 -- of header and archive
 abbrev pub version : ℕ
-version = 3
+version = 4
 
 abbrev pub refusing : ℕ → ℕ → ℕ → Refusal
 refusing n place tag = record { number = n; place = place; tag = tag }
@@ -54,19 +54,19 @@ abbrev pub saying : {A S : Type 0} → (A → S) → (Refusal → S) → Answer 
 saying say refuse (given a) = say a
 saying say refuse (refused n place tag) = refuse (refusing n place tag)
 
--- W-201's two words
+-- W-201's two words, and those of the withdrawn items
 abbrev pub presenting : TagSet → Present
 presenting s = record { low = s .low; high = s .high }
 
--- how many items, how many rows, and which known ones are there
-abbrev pub counting : Refusal → ℕ → TagSet → CountAnswer
-counting r n s = record { refusal = r; count = n; present = presenting s }
+-- how many items, how many rows, which known ones are there, and which of them are withdrawn
+abbrev pub counting : Refusal → ℕ → TagSet → TagSet → CountAnswer
+counting r n s t = record { refusal = r; count = n; present = presenting s; withdrawn = presenting t }
 
 abbrev pub itemsAnswer : Answer Accepted → CountAnswer
-itemsAnswer = saying (λ a. counting nothing (a .count) (a .present)) (λ r. counting r 0 noTags)
+itemsAnswer = saying (λ a. counting nothing (a .count) (a .present) (a .withdrawn)) (λ r. counting r 0 noTags noTags)
 
 abbrev pub rowsAnswer : Answer Filled → CountAnswer
-rowsAnswer = saying (λ f. counting nothing (f .count) (f .present)) (λ r. counting r 0 noTags)
+rowsAnswer = saying (λ f. counting nothing (f .count) (f .present) (f .withdrawn)) (λ r. counting r 0 noTags noTags)
 
 -- "answer from them alone": 1 where the bit of a tag is set, else 0
 abbrev pub hasAnswer : TagSet → ℕ → ℕ

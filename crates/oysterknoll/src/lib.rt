@@ -17,8 +17,8 @@ ghost use Rattle.refusal.specs.Numbers.{number};
 ghost use Rattle.tagset.specs.Sets.{knowing};
 ghost use Rattle.catalogue.specs.Items.{itemOf, unitOf};
 ghost use Rattle.walker.specs.Steps.{seenAt};
-ghost use Rattle.oysterknoll.specs.Answers.{version, refusing, rowing, unfixedAs, storedAs, markedAs, listing, itemsAnswer, rowsAnswer, bytesAnswer};
-ghost use Rattle.oysterknoll.specs.Answers.{linesAnswer, rowAnswer, startAnswer, nextAnswer, valueAnswer, codeAnswer, heightAnswer};
+ghost use Rattle.oysterknoll.specs.Answers.{version, refusing, presenting, rowing, unfixedAs, storedAs, markedAs, listing, itemsAnswer, rowsAnswer};
+ghost use Rattle.oysterknoll.specs.Answers.{bytesAnswer, linesAnswer, rowAnswer, startAnswer, nextAnswer, valueAnswer, codeAnswer, heightAnswer};
 ghost use Rattle.oysterknoll.specs.Answers.{cornerAnswer, itemAnswer, hasAnswer};
 use catalogue::Found;
 use catalogue::Item;
@@ -39,7 +39,7 @@ use walker::Begin;
 use walker::Seen;
 use writer::Writing;
 
-const VERSION: u64 = 3;
+const VERSION: u64 = 4;
 
 // Kinds of a height and of a corner, and how an item is stored.
 const MISSING: u64 = 0;
@@ -103,12 +103,13 @@ pub struct Present {
 
 const NO_TAGS: Present = Present { low: 0, high: 0 };
 
-// How many items or rows, and which known ones.
+// How many items or rows, which known ones, and which of them are withdrawn.
 #[repr(C)]
 pub struct CountAnswer {
     pub refusal: Refusal,
     pub count: usize,
     pub present: Present,
+    pub withdrawn: Present,
 }
 
 // How many bytes at the front of the output.
@@ -198,7 +199,16 @@ fn refused(cause: Cause) -> Refusal
     }
 }
 
-// Whether a packet is accepted, how many items it has, and which known ones are there.
+fn words_of(set: TagSet) -> Present
+    ensures { λ r. ⌜ r ≡ presenting set ⌝ }
+{
+    Present {
+        low: set.low,
+        high: set.high,
+    }
+}
+
+// Whether a packet is accepted, how many items it has, which known ones are there, and which of them are withdrawn.
 #[no_mangle]
 pub extern "C" fn oyk_check(packet: &[u8], low: u64, high: u64) -> CountAnswer
     ensures { λ r. ⌜ r ≡ itemsAnswer (checked (knowing low high) (now (packet .entry))) ⌝ }
@@ -208,23 +218,18 @@ pub extern "C" fn oyk_check(packet: &[u8], low: u64, high: u64) -> CountAnswer
             refusal: refused(cause),
             count: 0,
             present: NO_TAGS,
+            withdrawn: NO_TAGS,
         },
-        Checked::Accepted(accepted) => {
-            let set = accepted.present;
-            let present = Present {
-                low: set.low,
-                high: set.high,
-            };
-            CountAnswer {
-                refusal: NONE,
-                count: accepted.count,
-                present,
-            }
-        }
+        Checked::Accepted(accepted) => CountAnswer {
+            refusal: NONE,
+            count: accepted.count,
+            present: words_of(accepted.present),
+            withdrawn: words_of(accepted.withdrawn),
+        },
     }
 }
 
-// Reads a packet into a table: how many rows there are, and which known items.
+// Reads a packet into a table: how many rows there are, which known items, and which of them are withdrawn.
 #[no_mangle]
 pub extern "C" fn oyk_read(packet: &[u8], low: u64, high: u64, table: &mut [u64]) -> CountAnswer
     ensures { λ r. ⌜ r ≡ rowsAnswer (readAnswer (knowing low high) (now (packet .entry)) (now (table .entry))) ⌝ }
@@ -235,19 +240,14 @@ pub extern "C" fn oyk_read(packet: &[u8], low: u64, high: u64, table: &mut [u64]
             refusal: refused(cause),
             count: 0,
             present: NO_TAGS,
+            withdrawn: NO_TAGS,
         },
-        Reading::Rows(filled) => {
-            let set = filled.present;
-            let present = Present {
-                low: set.low,
-                high: set.high,
-            };
-            CountAnswer {
-                refusal: NONE,
-                count: filled.count,
-                present,
-            }
-        }
+        Reading::Rows(filled) => CountAnswer {
+            refusal: NONE,
+            count: filled.count,
+            present: words_of(filled.present),
+            withdrawn: words_of(filled.withdrawn),
+        },
     }
 }
 

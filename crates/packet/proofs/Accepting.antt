@@ -14,7 +14,7 @@ use Rattle.number.specs.Stored.{Bytes, valueOf}
 use Rattle.tagset.specs.Sets.{holds}
 use Rattle.tagset.specs.declared.TagSet.{TagSet}
 use Rattle.knowing.specs.Good.{good}
-use Rattle.catalogue.specs.Shapes.{shapeOf, shapeAllows, codeAllowed}
+use Rattle.catalogue.specs.Shapes.{shapeOf, sizeAllowed, rightLength, codeAllowed}
 use Rattle.packet.specs.Pieces.{Piece, Item, pieces, Step, noTag, noLength, one, readItem, before, itemAt, onward, walk}
 use Rattle.packet.specs.Ends.{rightEnds}
 use Rattle.packet.specs.Structure.{frame, endsOf, lastSum, closed, structure}
@@ -82,7 +82,7 @@ accepting K p is by e =
 
 -- each known item has an allowed length and code
 pub record Fits (c : Piece) : Type 0 where
-  pub size : shapeAllows (shapeOf (c .tag)) (length (c .value)) ≡ true
+  pub size : rightLength (c .tag) (length (c .value)) ≡ true
   pub code : codeAllowed (c .tag) (length (c .value)) (valueOf (c .value)) ≡ true
 
 pub data AllFit (K : Knowing) : List Item → Type 0 where
@@ -96,10 +96,10 @@ fits-by true false false e = let z : _≡_ {A = ℕ} 0 1 = cc in absurd (omega a
 fits-by false twice coded e = let z : _≡_ {A = ℕ} 0 1 = cc in absurd (omega arith)
 
 fits-if-clean : (K seen : Knowing) (c : Piece) → faultOf K seen c ≡ clean → K (c .tag) ≡ true → Fits c
-unfolding faultOf
+unfolding faultOf rightLength
 fits-if-clean K seen c e k =
     let n = length (c .value) in
-    let f = fits-by (shapeAllows (shapeOf (c .tag)) n) (seen (c .tag)) (codeAllowed (c .tag) n (valueOf (c .value))) (rw k at e) in
+    let f = fits-by (sizeAllowed (c .tag) (shapeOf (c .tag)) n) (seen (c .tag)) (codeAllowed (c .tag) n (valueOf (c .value))) (rw k at e) in
     record { size = f .0; code = f .1 }
 
 later-fine : (j : Judged) → later j ≡ fine → j ≡ fine

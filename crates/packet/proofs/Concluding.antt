@@ -4,7 +4,7 @@ use Prim.Native.Nat.{ℕ, zero, suc, _+_, _-_, _≤_}
 use native.Mathlib.Omega.{arith}
 use native.Mathlib.Nat.{zero-add}
 use mathlib.Core.Path.{_≡_, refl, ap, sym, _∙_}
-use mathlib.Core.Bool.{true, not}
+use mathlib.Core.Bool.{Bool, true}
 use mathlib.Core.List.{List, [], _∷_}
 use lib.Dec.{eqb}
 use borrow.Author.Tests.{eqb-true}
@@ -23,7 +23,7 @@ use Rattle.tagset.proofs.Counting.{size-none}
 use Rattle.knowing.specs.Good.{good}
 use Rattle.knowing.proofs.Laws.{good-means}
 use Rattle.catalogue.specs.Extended.{isExtended}
-use Rattle.rows.specs.Present.{presentIn}
+use Rattle.rows.specs.Present.{presentIn, withdrawnIn}
 use Rattle.packet.specs.Pieces.{Item, pieces, readItem, walk}
 use Rattle.packet.specs.Seen.{rowsOf}
 use Rattle.packet.specs.Judge.{judge}
@@ -35,14 +35,14 @@ use Rattle.packet.specs.Said.{headerAt}
 use Rattle.packet.specs.code.Headers.{headerOf}
 use Rattle.packet.specs.code.Passing.{Kept, kept, freshAt, keptFrom, Passes}
 use Rattle.packet.specs.code.Concluded.{begunBy, noHeader, headerIn, endsBy, closedBy, itemsAt, bare, rightFrom, judgedFrom}
-use Rattle.packet.specs.code.Concluded.{codedIn, cleanIn, PlacesIn, Whole, Begins}
+use Rattle.packet.specs.code.Concluded.{wholeIn, codedIn, cleanIn, PlacesIn, Whole, Begins}
 use Rattle.packet.specs.declared.Header.{Header}
-use Rattle.packet.specs.declared.Passed.{Passed}
 use Rattle.packet.specs.declared.Accepted.{Accepted}
 use Rattle.packet.proofs.Frames.{framed-given}
 use Rattle.packet.proofs.Walks.{walk-end, kept-none, header-lies, header-back}
 use Rattle.packet.proofs.Walked.{Walked, done, went, walked, Within, last-within, first-start, header-start}
-use Rattle.packet.proofs.Passing.{kept-count, kept-longer, kept-last, kept-places, kept-present, tracks-none, marks-none, glance-clean}
+use Rattle.packet.proofs.Passing.{kept-count, kept-longer, kept-last, kept-places, kept-present, kept-withdrawn, tracks-none, marks-none}
+use Rattle.packet.proofs.Passing.{glance-clean}
 use Rattle.packet.proofs.Accepting.{AllFit, fine-fit, placed-given}
 
 -- no item stands past the end
@@ -144,34 +144,39 @@ module _ (p : List ℕ) (by : Bytes p) (from : ℕ) (inside : from ≤ length p)
       let lies = header-lies p at by g e in
       let size : length (take (g .size) (drop (g .place) p)) ≡ g .size = ap (λ z. z .size) (header-back p g (lies .inside)) in
       let found : foundAt (g .tag) (g .place) (g .size) ≤ length p =
-      byBool (isExtended (g .tag)) (λ x. rw x (omega (arith, lies .inside))) (λ x. rw x (lies .inside)) in
+      byBool (eqb (g .size) 0) (λ z. rw z (omega arith)) (λ z. rw z (byBool (isExtended (g .tag))
+      (λ x. rw x (omega (arith, lies .inside)))
+      (λ x. rw x (lies .inside)))) in
       places-in _ is rest (record { inside = λ t. set-within l _ _ (length p) t (rw size found) (h .inside) })
 
-module _ (K : TagSet) (words : Words K) (p : List ℕ) (by : Bytes p) (from : ℕ) (r : Passed) (places : List ℕ) (present : TagSet)
-    (w : Whole K p from r places present) where
+module _ (K : TagSet) (words : Words K) (p : List ℕ) (by : Bytes p) (from : ℕ) (k : Kept) (w : Whole K p from k) where
+  -- before the first item
+  abbrev fresh : Kept
+  fresh = freshAt from noPlaces noTags noTags
+
   went-all : Walked p from (w .items)
   went-all = walked p by 128 from (w .items) (w .walked)
 
-  last-place : (is : List Item) → keptFrom K (freshAt from noPlaces noTags) is .passed .last ≡ lastStart from is
+  last-place : (is : List Item) → keptFrom K fresh is .passed .last ≡ lastStart from is
   unfolding keptFrom
   last-place [] = refl
-  last-place (i ∷ is) = kept-last K (freshAt from noPlaces noTags) i is
+  last-place (i ∷ is) = kept-last K fresh i is
 
   abbrev last : Header
-  last = headerIn p (r .last)
+  last = headerIn p (k .passed .last)
 
   closed-last : Closed p by from (w .inside) (w .items) last
   closed-last =
-      let e : lastStart from (w .items) ≡ r .last = sym (last-place (w .items)) ∙ ap (λ k. k .passed .last) (w .keeps) in
+      let e : lastStart from (w .items) ≡ k .passed .last = sym (last-place (w .items)) ∙ ap (λ j. j .passed .last) (w .keeps) in
       rw e at (closed-at p by from (w .inside) (w .items) went-all)
 
   pub last-inside : last .place + last .size ≤ length p
   last-inside = closed-last .lies
 
-  places-are : placesFrom noPlaces (w .items) ≡ places
-  places-are = sym (kept-places K (freshAt from noPlaces noTags) (w .items)) ∙ ap (λ k. k .places) (w .keeps)
+  places-are : placesFrom noPlaces (w .items) ≡ k .places
+  places-are = sym (kept-places K fresh (w .items)) ∙ ap (λ j. j .places) (w .keeps)
 
-  pub places-inside : PlacesIn (length p) places
+  pub places-inside : PlacesIn (length p) (k .places)
   places-inside = rw places-are at (places-in p by from (w .inside) noPlaces (w .items) went-all (record { inside = none-within 128 (length p) }))
 
   -- first, last and sum, and then the judgement
@@ -181,19 +186,20 @@ module _ (K : TagSet) (words : Words K) (p : List ℕ) (by : Bytes p) (from : �
       (bare-closed (w .items) (rightEnds (endsOf p (w .items))) (lastSum p (w .items)) (judged (holds K)))
 
   -- as many tags noted as known items: the judgement is that nothing is wrong
-  pub clean-right : cleanIn K p places present (r .known) ≡ true → judgedFrom K p from ≡ given tt
+  pub clean-right : cleanIn K p (k .places) (k .present) (k .passed .known) ≡ true → judgedFrom K p from ≡ given tt
   unfolding cleanIn judge
   clean-right e =
-      let a = both-right (eqb (size present) (r .known)) _ e in
-      let b = both-right (not (eqb (getD places 65 0) 0)) _ a in
-      let even : size present ≡ r .known = eqb-true _ _ (both-left (eqb (size present) (r .known)) _ e) in
-      let there : not (eqb (getD places 65 0) 0) ≡ true = both-left (not (eqb (getD places 65 0) 0)) _ a in
+      let places = k .places in
+      let counts : Bool = eqb (size (k .present)) (k .passed .known) in
+      let a = both-right counts _ e in
+      let b = both-right (wholeIn places) _ a in
+      let even : size (k .present) ≡ k .passed .known = eqb-true _ _ (both-left counts _ e) in
       let knows = good-means K words (w .known) in
-      let fine = glance-clean K knows words p by places
+      let fine = glance-clean K knows words p by places (both-left (wholeIn places) _ a)
       (both-left (codedIn K p places 34) _ b) (both-right (codedIn K p places 34) _ b)
-      (freshAt from noPlaces noTags) [] (w .items) tracks-none (marks-none K knows words) (sym size-none) went-all
-      (ap (λ k. k .passed .known) (w .keeps) ∙ (sym even ∙ ap (λ k. size (k .present)) (sym (w .keeps)))) (ap (λ k. k .places) (w .keeps)) in
-      rw (w .walked, fine, there)
+      fresh [] (w .items) tracks-none (marks-none K knows words) (sym size-none) went-all
+      (ap (λ j. j .passed .known) (w .keeps) ∙ (sym even ∙ ap (λ j. size (j .present)) (sym (w .keeps)))) (ap (λ j. j .places) (w .keeps)) in
+      rw (w .walked, fine)
 
   -- what the answer is made of
   abbrev pub walkedAnswer : Answer (List Item)
@@ -218,43 +224,48 @@ module _ (K : TagSet) (words : Words K) (p : List ℕ) (by : Bytes p) (from : �
 
   pub right-given : rightFrom K p from ≡ given tt
       → map (bodyOf (holds K)) (then (walk 128 from (drop from p)) (λ is. then (closed p is) (judged (holds K))))
-      ≡ given (record { from = from; count = r .count; longer = r .longer; present = present })
-  unfolding presentIn
+      ≡ given (record { from = from; count = k .passed .count; longer = k .passed .longer; present = k .present; withdrawn = k .withdrawn })
+  unfolding presentIn withdrawnIn
   right-given e =
       let a = map-given (λ _. tt) walkedAnswer (sym by-right ∙ e) in
       let b = accepts K p (w .items) (a .0) (a .1) in
-      let fresh = freshAt from noPlaces noTags in
-      let count : length (w .items) ≡ r .count =
-      sym (kept-count K fresh (w .items) ∙ zero-add (length (w .items))) ∙ ap (λ k. k .passed .count) (w .keeps) in
-      let longer : longerOf (w .items) ≡ r .longer =
-      sym (kept-longer K fresh (w .items) ∙ zero-add (longerOf (w .items))) ∙ ap (λ k. k .passed .longer) (w .keeps) in
-      let noted : presentIn (rowsOf (holds K) (w .items)) ≡ present =
-      sym (kept-present K (good-means K words (w .known)) words fresh (w .items) (b .fits)) ∙ ap (λ k. k .present) (w .keeps) in
-      by-items ∙ (ap (map (bodyOf (holds K))) (a .1 ∙ ap given (b .same)) ∙ rw (starts (w .items) went-all (b .ends), count, longer, noted))
+      let knows = good-means K words (w .known) in
+      let count : length (w .items) ≡ k .passed .count =
+      sym (kept-count K fresh (w .items) ∙ zero-add (length (w .items))) ∙ ap (λ j. j .passed .count) (w .keeps) in
+      let longer : longerOf (w .items) ≡ k .passed .longer =
+      sym (kept-longer K fresh (w .items) ∙ zero-add (longerOf (w .items))) ∙ ap (λ j. j .passed .longer) (w .keeps) in
+      let noted : presentIn (rowsOf (holds K) (w .items)) ≡ k .present =
+      sym (kept-present K knows words fresh (w .items) (b .fits)) ∙ ap (λ j. j .present) (w .keeps) in
+      let empty : withdrawnIn (rowsOf (holds K) (w .items)) ≡ k .withdrawn =
+      sym (kept-withdrawn K knows words fresh (w .items)) ∙ ap (λ j. j .withdrawn) (w .keeps) in
+      by-items ∙ (ap (map (bodyOf (holds K))) (a .1 ∙ ap given (b .same)) ∙ rw (starts (w .items) went-all (b .ends), count, longer, noted, empty))
 
-  pub places-items : places ≡ placesFrom noPlaces (itemsAt p from)
+  pub places-items : k .places ≡ placesFrom noPlaces (itemsAt p from)
   places-items = sym (rw (w .walked) places-are)
 
 -- a walk that has come to the packet's end, and one that has stopped before
-module _ (K : TagSet) (p : List ℕ) (from : ℕ) (before : List ℕ) (b : Begins K p from before) (r : Passed) (places : List ℕ) (present : TagSet)
-    (e : Passes K p from before noTags r places present) where
-  abbrev all : Answer Kept
-  all = kept K (freshAt from noPlaces noTags) (walk 128 from (drop from p))
+module _ (K : TagSet) (p : List ℕ) (from : ℕ) (before : List ℕ) (b : Begins K p from before) (k : Kept)
+    (e : Passes K p (freshAt from before noTags noTags) k) where
+  abbrev here : ℕ
+  here = k .passed .here
 
-  goes-on : kept K (record { passed = r; places = places; present = present }) (walk (128 - r .count) (r .here) (drop (r .here) p)) ≡ all
-  goes-on = e .goes ∙ ap (λ l. kept K (freshAt from l noTags) (walk 128 from (drop from p))) (b .none)
+  abbrev left : ℕ
+  left = 128 - k .passed .count
 
-  pub passes-whole : length p ≤ r .here → Whole K p from r places present
+  goes-on : kept K k (walk left here (drop here p)) ≡ kept K (freshAt from noPlaces noTags noTags) (walk 128 from (drop from p))
+  goes-on = e .goes ∙ ap (λ l. kept K (freshAt from l noTags noTags) (walk 128 from (drop from p))) (b .none)
+
+  pub passes-whole : length p ≤ here → Whole K p from k
   passes-whole h =
-      let w = map-given (keptFrom K (freshAt from noPlaces noTags)) (walk 128 from (drop from p))
-      (sym goes-on ∙ (ap (kept K _) (walk-end p (r .here) (128 - r .count) h) ∙ kept-none K _)) in
+      let w = map-given (keptFrom K (freshAt from noPlaces noTags noTags)) (walk 128 from (drop from p))
+      (sym goes-on ∙ (ap (kept K _) (walk-end p here left h) ∙ kept-none K _)) in
       record { known = b .known; inside = b .inside; items = w .0; walked = w .1; keeps = w .2 }
 
-  pub passes-refused : (n a t : ℕ) → walk (128 - r .count) (r .here) (drop (r .here) p) ≡ refused n a t
+  pub passes-refused : (n a t : ℕ) → walk left here (drop here p) ≡ refused n a t
       → map (bodyOf (holds K)) (then (walk 128 from (drop from p)) (λ is. then (closed p is) (judged (holds K)))) ≡ refused n a t
   passes-refused n a t f =
       ap (λ x. map (bodyOf (holds K)) (then x (λ is. then (closed p is) (judged (holds K)))))
-      (map-refused (keptFrom K (freshAt from noPlaces noTags)) (walk 128 from (drop from p)) n a t (sym goes-on ∙ ap (kept K _) f))
+      (map-refused (keptFrom K (freshAt from noPlaces noTags noTags)) (walk 128 from (drop from p)) n a t (sym goes-on ∙ ap (kept K _) f))
 
 -- the verdict and the check, by where the items begin
 abbrev itemsFrom : TagSet → List ℕ → ℕ → Answer (List Item)

@@ -13,7 +13,7 @@ use Rattle.number.specs.Stored.{Bytes, valueOf}
 use Rattle.number.proofs.Laws.{bytes-take, bytes-drop, value-small, bits-bytes}
 use Rattle.tagset.specs.Sets.{holds}
 use Rattle.tagset.specs.declared.TagSet.{TagSet}
-use Rattle.catalogue.specs.Shapes.{shapeOf, shapeAllows, codesLimited}
+use Rattle.catalogue.specs.Shapes.{shapeOf, sizeAllowed, codesLimited}
 use Rattle.catalogue.specs.declared.Shape.{Shape}
 use Rattle.catalogue.proofs.Columns.{codes-free, limited-few}
 use Rattle.packet.specs.Pieces.{Item}
@@ -27,7 +27,7 @@ wraps-not n x fits h = let p : 2 ^ (8 * n) ≤ 2 ^ 64 = pow-mono {i = 8 * n} {j 
 
 module _ (n x : ℕ) (twice : Bool) (fits : x < 256 ^ n) where
   limited : (t : ℕ) → codesLimited t ≡ true → faultBy (looked t n (x % 2 ^ 64) twice) ≡ faultBy (looked t n x twice)
-  limited t l = byBool (shapeAllows (shapeOf t) n) (λ a. rw (wraps-not n x fits (limited-few t n l a))) (λ a. rw a)
+  limited t l = byBool (sizeAllowed t (shapeOf t) n) (λ a. rw (wraps-not n x fits (limited-few t n l a))) (λ a. rw a)
 
   pub code-wraps : (t : ℕ) → faultBy (looked t n (x % 2 ^ 64) twice) ≡ faultBy (looked t n x twice)
   code-wraps t = byBool (codesLimited t) (λ l. limited t l) (λ l. rw (codes-free t n (x % 2 ^ 64) l, codes-free t n x l))

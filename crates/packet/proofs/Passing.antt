@@ -4,7 +4,7 @@ use Prim.Native.Nat.{ℕ, suc, _+_, _-_, _<_, _≤_}
 use native.Mathlib.Omega.{arith}
 use native.Mathlib.Nat.{add-zero, add-assoc}
 use mathlib.Core.Path.{_≡_, refl, ap, sym, _∙_, subst}
-use mathlib.Core.Bool.{Bool, true, false, not, cond, _&&_}
+use mathlib.Core.Bool.{Bool, true, false, cond, _&&_, and-false}
 use mathlib.Core.List.{List, [], _∷_}
 use lib.Dec.{eqb, leb}
 use lib.ListN.{length, take, drop, getD, set, length-set, length-replicate, getD-replicate}
@@ -22,26 +22,27 @@ use Rattle.tagset.proofs.Counting.{with-new, with-held}
 use Rattle.knowing.proofs.Laws.{Good, known-below, known-some, known-there}
 use Rattle.catalogue.specs.Items.{groups, member, itemIn, itemOf}
 use Rattle.catalogue.specs.Extended.{isExtended}
-use Rattle.catalogue.specs.Shapes.{shapeOf, shapeAllows, codeAllowed, codesLimited}
+use Rattle.catalogue.specs.Shapes.{shapeOf, shapeAllows, isNeeded, rightLength, codeAllowed, codesLimited}
 use Rattle.catalogue.specs.declared.Shape.the-variants.{Number, Absent}
-use Rattle.catalogue.proofs.Columns.{codes-free, extended-code, reach-allowed}
-use Rattle.rows.specs.Present.{isPresent, withRow, presentFrom}
+use Rattle.catalogue.proofs.Columns.{codes-free, no-code, extended-code, reach-allowed, right-by, right-some}
+use Rattle.rows.specs.Present.{isPresent, isWithdrawn, withRow, wordsFrom}
 use Rattle.packet.specs.Pieces.{Piece, Item, pieces, walk}
 use Rattle.packet.specs.Seen.{rowOf, rowsOf}
-use Rattle.packet.specs.Judge.{has, among, clean, faultOf, fine, noVersion, later, judgeFrom}
+use Rattle.packet.specs.Judge.{has, among, clean, faultOf, fine, judgeFrom}
 use Rattle.packet.specs.Structure.{lastOf}
 use Rattle.packet.specs.Encode.{longerOf}
 use Rattle.packet.specs.Verdict.{oneByte, placesFrom, noPlaces}
 use Rattle.packet.specs.Said.{headerAt}
 use Rattle.packet.specs.code.Headers.{headerOf, itemBy}
-use Rattle.packet.specs.code.Passing.{Kept, longerIn, isFit, foundBy, counted, noted, Glances, withHeader, withItem, keptFrom, kept, freshAt}
-use Rattle.packet.specs.code.Concluded.{codedIn}
+use Rattle.packet.specs.code.Passing.{Kept, longerIn, isFit, foundBy, counted, noted, Glances, withHeader, withItem, keptFrom, kept}
+use Rattle.packet.specs.code.Passing.{SeenAt, withGlance, Counted, Going}
+use Rattle.packet.specs.code.Concluded.{foundIn, wholeIn, codedIn}
 use Rattle.packet.specs.declared.Header.{Header}
 use Rattle.packet.specs.declared.Glance.{Glance}
 use Rattle.packet.proofs.Walks.{header-lies, header-back, walk-item, kept-before}
 use Rattle.packet.proofs.Walked.{Walked, done, went, header-start}
 use Rattle.packet.proofs.Accepting.{Fits, AllFit, noneFits, oneFits}
-use Rattle.packet.proofs.Present.{row-present}
+use Rattle.packet.proofs.Present.{row-present, row-withdrawn}
 
 -- what is kept of the items, one thing after another
 module _ (K : TagSet) where
@@ -65,16 +66,16 @@ module _ (K : TagSet) where
   kept-places k [] = refl
   kept-places k (i ∷ is) = kept-places (withItem K k i) is
 
--- the column has the tags seen
+-- where a value was found, its tag was seen
 pub record Tracks (places ts : List ℕ) : Type 0 where
   pub full : length places ≡ 128
-  pub each : (t : ℕ) → 0 < t → t < 128 → has t ts ≡ not (eqb (getD places t 0) 0)
+  pub each : (t : ℕ) → 0 < t → t < 128 → foundIn places t ≡ true → has t ts ≡ true
 
 pub tracks-none : Tracks noPlaces []
 tracks-none =
     record {
       full = length-replicate {A = ℕ} 128 0;
-      each = λ t h k. rw (getD-replicate {A = ℕ} 128 t 0 0 k);
+      each = λ t h k f. clash (sym (rw (getD-replicate {A = ℕ} 128 t 0 0 k) at f));
     }
 
 pub short-tag : (u : ℕ) → oneByte u < 128
@@ -89,16 +90,13 @@ short-other t u h other e =
     (λ k. other (e ∙ short-same u k))
     (λ k. let z : t ≡ 0 = rw (le-ltb u 128 k) at e in absurd (omega arith))
 
-pub tracks-one : (places ts : List ℕ) (u e : ℕ) → 0 < e → Tracks places ts → Tracks (set places (oneByte u) e) (u ∷ ts)
-tracks-one places ts u e some s =
+pub tracks-one : (places ts : List ℕ) (u e : ℕ) → Tracks places ts → Tracks (set places (oneByte u) e) (u ∷ ts)
+tracks-one places ts u e s =
     record {
       full = length-set places (oneByte u) e ∙ s .full;
-      each = λ t h k. byEq t u
-          (λ q.
-          let f : oneByte u ≡ t = ap oneByte (sym q) ∙ short-same t k in
-          let g : t < length places = rw (s .full) k in
-          rw (eq-eqb t u q, f, getD-set-same places t e 0 g, ne-eqb e 0 (λ z. omega arith)))
-          (λ q. rw (ne-eqb t u q, getD-set-other places (oneByte u) t e 0 (short-other t u h q)) (s .each t h k));
+      each = λ t h k f. byEq t u
+          (λ q. rw (eq-eqb t u q))
+          (λ q. rw (ne-eqb t u q) (s .each t h k (rw (getD-set-other places (oneByte u) t e 0 (short-other t u h q)) at f)));
     }
 
 value-one : (x : ℕ) → valueOf (x ∷ []) ≡ x
@@ -109,24 +107,28 @@ value-one x = omega arith
 one-byte : (n : ℕ) → shapeAllows (Number 1 1 false) n ≡ true → n ≡ 1
 one-byte n a = omega (arith, leb-true 1 n (both-left (leb 1 n) _ a), leb-true n 1 (both-right (leb 1 n) _ a))
 
--- a fit item has an allowed length, and if it is an extended height an allowed code
-fit-length : (c : Piece) → isFit c ≡ true → shapeAllows (shapeOf (c .tag)) (length (c .value)) ≡ true
+-- a fit item of some bytes has an allowed length, and if it is an extended height an allowed code
+fit-length : (c : Piece) → isFit c ≡ true → (length (c .value) ≡ 0 → ⊥) → shapeAllows (shapeOf (c .tag)) (length (c .value)) ≡ true
 unfolding isFit
-fit-length c f =
+fit-length c f some =
+    let n = length (c .value) in
     byBool (isExtended (c .tag))
-    (λ x. reach-allowed (c .tag) x (length (c .value)) _ (rw x at f))
-    (λ x. rw x at f)
+    (λ x. reach-allowed (c .tag) x n _ (rw (ne-eqb n 0 some, x) at f))
+    (λ x. rw (ne-eqb n 0 some, x) at f)
 
 fit-code : (c : Piece) → isExtended (c .tag) ≡ true → isFit c ≡ true → codeAllowed (c .tag) (length (c .value)) (valueOf (c .value)) ≡ true
 unfolding isFit
 fit-code c x f = extended-code (c .tag) x (length (c .value)) _ ∙ rw x at f
 
 fits-fit : (c : Piece) → Fits c → isFit c ≡ true
-unfolding isFit
+unfolding isFit rightLength
 fits-fit c f =
+    let n = length (c .value) in
     byBool (isExtended (c .tag))
-    (λ x. rw x (sym (extended-code (c .tag) x (length (c .value)) _) ∙ f .code))
-    (λ x. rw x (f .size))
+    (λ x. rw x (sym (extended-code (c .tag) x n _) ∙ f .code))
+    (λ x. rw x (byEq n 0
+    (λ z. rw z)
+    (λ some. rw (ne-eqb n 0 some) (right-some (c .tag) n (shapeOf (c .tag)) (f .size) some))))
 
 -- what the walk notes of the items
 module _ (K : TagSet) (good : Good K) (w : Words K) where
@@ -236,7 +238,30 @@ module _ (K : TagSet) (good : Good K) (w : Words K) where
             (noted-other (k .present) (m .words) u t f (short-other t (h .tag) (known-some K good t b) q) ∙ m .each t b));
       }
 
-  module _ (p : List ℕ) (by : Bytes p) (places : List ℕ) (coded34 : codedIn K p places 34 ≡ true) (coded63 : codedIn K p places 63 ≡ true) where
+  module _ (p : List ℕ) (by : Bytes p) (places : List ℕ) (whole : wholeIn places ≡ true) (coded34 : codedIn K p places 34 ≡ true)
+      (coded63 : codedIn K p places 63 ≡ true) where
+    -- what a packet needs has a value
+    found1 : foundIn places 1 ≡ true
+    found1 = both-left (foundIn places 1) _ whole
+
+    found2 : foundIn places 2 ≡ true
+    found2 = both-left (foundIn places 2) _ (both-right (foundIn places 1) _ whole)
+
+    found65 : foundIn places 65 ≡ true
+    found65 = both-right (foundIn places 2) _ (both-right (foundIn places 1) _ whole)
+
+    needed-found : (t : ℕ) → isNeeded t ≡ true → foundIn places t ≡ true
+    unfolding isNeeded
+    needed-found t e =
+        byEq t 1 (λ q. rw q found1)
+        (λ a. byEq t 2 (λ q. rw q found2)
+        (λ b. byEq t 65 (λ q. rw q found65)
+        (λ c. clash (sym (rw (ne-eqb t 1 a, ne-eqb t 2 b, ne-eqb t 65 c) at e)))))
+
+    -- so an item of no bytes is none of them
+    empty-free : (h : Header) → getD places (h .tag) 0 ≡ foundBy h → h .size ≡ 0 → isNeeded (h .tag) ≡ false
+    empty-free h e z = byBool (isNeeded (h .tag)) (λ n. clash (sym (rw (e, z) at (needed-found (h .tag) n)))) (λ n. n)
+
     -- its code is right, by the byte before the place past it
     coded-byte : (h : Header) (t : ℕ) → h .tag ≡ t → codedIn K p places t ≡ true → holds K t ≡ true → h .size ≡ 1 → h .place + h .size ≤ length p
         → getD places t 0 ≡ h .place + h .size → codeAllowed t (h .size) (valueOf (take (h .size) (drop (h .place) p))) ≡ true
@@ -247,19 +272,29 @@ module _ (K : TagSet) (good : Good K) (w : Words K) where
         let z = rw (f, lt-ltb 0 (h .place + 1) (omega arith), k, g) at c in
         rw (one, cons-at p (h .place) (omega arith), value-one (getD p (h .place) 0)) z
 
+    -- its value is found past it
+    found-past : (h : Header) (t : ℕ) → h .tag ≡ t → isExtended t ≡ false → (h .size ≡ 0 → ⊥) → getD places t 0 ≡ foundBy h
+        → getD places t 0 ≡ h .place + h .size
+    found-past h t q x some e = rw (q, x, ne-eqb (h .size) 0 some) at e
+
     coded : (h : Header) → holds K (h .tag) ≡ true → h .place + h .size ≤ length p → isFit (itemBy p h .piece) ≡ true
         → length (take (h .size) (drop (h .place) p)) ≡ h .size
         → getD places (h .tag) 0 ≡ foundBy h → codeAllowed (h .tag) (h .size) (valueOf (take (h .size) (drop (h .place) p))) ≡ true
     unfolding codesLimited isExtended shapeOf itemOf itemIn member groups
     coded h k inside f l e =
-        let s : shapeAllows (shapeOf (h .tag)) (h .size) ≡ true = rw l at (fit-length (itemBy p h .piece) f) in
+        byEq (h .size) 0
+        (λ z. rw z (no-code (h .tag) _))
+        (λ some.
+        let s : shapeAllows (shapeOf (h .tag)) (h .size) ≡ true = rw l at (fit-length (itemBy p h .piece) f (rw l some)) in
         byEq (h .tag) 34
-        (λ q. rw q (coded-byte h 34 q coded34 (rw q at k) (one-byte (h .size) (rw q at s)) inside (rw q at e)))
+        (λ q. rw q (coded-byte h 34 q coded34 (rw q at k) (one-byte (h .size) (rw q at s)) inside
+        (found-past h 34 q refl some (ap (λ t. getD places t 0) (sym q) ∙ e))))
         (λ a. byEq (h .tag) 63
-        (λ q. rw q (coded-byte h 63 q coded63 (rw q at k) (one-byte (h .size) (rw q at s)) inside (rw q at e)))
+        (λ q. rw q (coded-byte h 63 q coded63 (rw q at k) (one-byte (h .size) (rw q at s)) inside
+        (found-past h 63 q refl some (ap (λ t. getD places t 0) (sym q) ∙ e))))
         (λ b. byBool (isExtended (h .tag))
         (λ x. rw l at (fit-code (itemBy p h .piece) x f))
-        (λ x. codes-free (h .tag) (h .size) _ (rw (ne-eqb (h .tag) 34 a, ne-eqb (h .tag) 63 b, x)))))
+        (λ x. codes-free (h .tag) (h .size) _ (rw (ne-eqb (h .tag) 34 a, ne-eqb (h .tag) 63 b, x))))))
 
     clean-item : (k : Kept) (ts : List ℕ) (h : Header) → Marks (k .present) ts → Noted k h (isFit (itemBy p h .piece)) → h .place + h .size ≤ length p
         → (holds K (h .tag) ≡ true → getD places (h .tag) 0 ≡ foundBy h)
@@ -273,19 +308,17 @@ module _ (K : TagSet) (good : Good K) (w : Words K) where
         let l : length (take (h .size) (drop (h .place) p)) ≡ h .size = ap (λ i. i .size) (header-back p h inside) in
         let f : isFit (itemBy p h .piece) ≡ true = s .fits known in
         let new : has (h .tag) ts ≡ false = sym (m .each (h .tag) b) ∙ rw same at (s .new known) in
-        rw (b, l, rw l at (fit-length (itemBy p h .piece) f), new, coded h b inside f l (ends b)))
+        let sized = right-by (h .tag) (h .size) (shapeOf (h .tag)) (known-there K good (h .tag) b) (empty-free h (ends b))
+        (λ some. rw l at (fit-length (itemBy p h .piece) f (rw l some))) in
+        rw (b, l, sized, new, coded h b inside f l (ends b)))
         (λ b. rw b)
 
-    later-same : (b : Bool) → later (cond b fine noVersion) ≡ cond b fine noVersion
-    later-same true = refl
-    later-same false = refl
-
-    -- as many tags noted as known items means nothing wrong by the one rule, but for item 65
+    -- as many tags noted as known items means nothing wrong by the one rule
     pub glance-clean : (k : Kept) (ts : List ℕ) {at : ℕ} (is : List Item) → Tracks (k .places) ts → Marks (k .present) ts → Even k → Walked p at is
         → Even (keptFrom K k is) → keptFrom K k is .places ≡ places
-        → judgeFrom (holds K) ts (pieces is) ≡ cond (not (eqb (getD places 65 0) 0)) fine noVersion
+        → judgeFrom (holds K) ts (pieces is) ≡ fine
     unfolding keptFrom judgeFrom
-    glance-clean k ts [] s m e (done _) last f = rw (s .each 65 (omega arith) (omega arith), f)
+    glance-clean k ts [] s m e (done _) last f = rw (s .each 65 (omega arith) (omega arith) (rw f found65))
     glance-clean k ts {at} (i ∷ is) s m e (went h found rest) last f =
         let lies = header-lies p at by h found in
         let fits : Bool = isFit (itemBy p h .piece) in
@@ -304,9 +337,7 @@ module _ (K : TagSet) (good : Good K) (w : Words K) where
         let met : holds (next .present) u ≡ true = n .each u b ∙ rw (eq-eqb u u refl) in
         ap (λ l. getD l u 0) (sym f′) ∙ (place-stays next (n .words) (q .even) is last′ u b met ∙ at-u) in
         let c = clean-item k ts h m q (lies .inside) ends in
-        let some : 0 < foundBy h = byBool (isExtended u) (λ x. rw x (omega (arith, lies .two))) (λ x. rw x (omega (arith, lies .two))) in
-        let rec = glance-clean next (u ∷ ts) is (tracks-one (k .places) ts u (foundBy h) some s) n (q .even) rest last′ f′ in
-        rw (c, rec) (later-same (not (eqb (getD places 65 0) 0)))
+        rw (c, glance-clean next (u ∷ ts) is (tracks-one (k .places) ts u (foundBy h) s) n (q .even) rest last′ f′)
 
   -- a tag known at a glance is known
   known-short : (u : ℕ) → holds K (oneByte u) ≡ true → holds K u ≡ true
@@ -324,7 +355,7 @@ module _ (K : TagSet) (good : Good K) (w : Words K) where
 
   -- where each known item has an allowed length and code, the tags noted are those of the rows that are not carried
   noted-row : (s : TagSet) (i : Item) → (holds K (i .piece .tag) ≡ true → Fits (i .piece))
-      → noted K s (oneByte (i .piece .tag)) (isFit (i .piece)) ≡ withRow s (rowOf (holds K) i)
+      → noted K s (oneByte (i .piece .tag)) (isFit (i .piece)) ≡ withRow isPresent s (rowOf (holds K) i)
   unfolding rowOf
   noted-row s i fits =
       let u : ℕ = i .piece .tag in
@@ -333,47 +364,79 @@ module _ (K : TagSet) (good : Good K) (w : Words K) where
       (λ b. rw (shown, short-same u (known-below K w u b), b, fits-fit (i .piece) (fits b)))
       (λ b. rw (shown, b) (byBool (holds K (oneByte u)) (λ k. clash (sym (known-short u k) ∙ b)) (λ k. rw k)))
 
-  pub kept-present : (k : Kept) (is : List Item) → AllFit (holds K) is → keptFrom K k is .present ≡ presentFrom (k .present) (rowsOf (holds K) is)
-  unfolding keptFrom presentFrom rowsOf
+  pub kept-present : (k : Kept) (is : List Item) → AllFit (holds K) is → keptFrom K k is .present ≡ wordsFrom isPresent (k .present) (rowsOf (holds K) is)
+  unfolding keptFrom wordsFrom rowsOf
   kept-present k [] noneFits = refl
   kept-present k (i ∷ is) (oneFits h rest) =
-      kept-present (withItem K k i) is rest ∙ ap (λ s. presentFrom s (rowsOf (holds K) is)) (noted-row (k .present) i h)
+      kept-present (withItem K k i) is rest ∙ ap (λ s. wordsFrom isPresent s (rowsOf (holds K) is)) (noted-row (k .present) i h)
 
--- a walk on its way: what is kept with the items ahead is what is kept of all
-pub record Going (K : TagSet) (p : List ℕ) (from : ℕ) (before : List ℕ) (none : TagSet) (k : Kept) : Type 0 where
-  pub few : k .passed .count ≤ 128
-  pub fewer : k .passed .known ≤ k .passed .count
-  pub less : k .passed .longer ≤ k .passed .here
-  pub goes : kept K k (walk (128 - k .passed .count) (k .passed .here) (drop (k .passed .here) p))
-      ≡ kept K (freshAt from before none) (walk 128 from (drop from p))
+  -- and those noted of no bytes are the withdrawn rows'
+  noted-empty : (s : TagSet) (i : Item)
+      → noted K s (oneByte (i .piece .tag)) (eqb (length (i .piece .value)) 0) ≡ withRow isWithdrawn s (rowOf (holds K) i)
+  unfolding rowOf
+  noted-empty s i =
+      let u : ℕ = i .piece .tag in
+      let shown : isWithdrawn (rowOf (holds K) i) ≡ (holds K u && eqb (length (i .piece .value)) 0) = row-withdrawn K good i in
+      byBool (holds K u)
+      (λ b. rw (shown, short-same u (known-below K w u b), b))
+      (λ b. rw (shown, b) (byBool (holds K (oneByte u)) (λ k. clash (sym (known-short u k) ∙ b)) (λ k. rw k)))
 
-pub going-begin : (K : TagSet) (p : List ℕ) (from : ℕ) (before : List ℕ) (none : TagSet) → Going K p from before none (freshAt from before none)
-going-begin K p from before none = record { few = omega arith; fewer = omega arith; less = omega arith; goes = refl }
+  pub kept-withdrawn : (k : Kept) (is : List Item) → keptFrom K k is .withdrawn ≡ wordsFrom isWithdrawn (k .withdrawn) (rowsOf (holds K) is)
+  unfolding keptFrom wordsFrom rowsOf
+  kept-withdrawn k [] = refl
+  kept-withdrawn k (i ∷ is) =
+      kept-withdrawn (withItem K k i) is ∙ ap (λ s. wordsFrom isWithdrawn s (rowsOf (holds K) is)) (noted-empty (k .withdrawn) i)
+
+-- a walk that begins, and one that goes on after another
+pub going-begin : (K : TagSet) (p : List ℕ) (k : Kept) → Counted (k .passed) → Going K p k k
+going-begin K p k c = record { counted = c; on = omega arith; goes = refl }
+
+pub going-on : (K : TagSet) (p : List ℕ) (fresh k l : Kept) → Going K p fresh k → Going K p k l → Going K p fresh l
+going-on K p fresh k l g h = record { counted = h .counted; on = omega (arith, g .on, h .on); goes = h .goes ∙ g .goes }
+
+pub noted-none : (K s : TagSet) (t : ℕ) (f : Bool) → f ≡ false → noted K s t f ≡ s
+noted-none K s t f e = rw (e, and-false (holds K t))
 
 pub counted-few : (K : TagSet) (t : ℕ) → counted K t ≤ 1
 counted-few K t = byBool (holds K t) (λ e. rw e (omega arith)) (λ e. rw e (omega arith))
 
--- with an item more, by its glance
-abbrev pub withGlance : TagSet → Kept → Glance → Kept
-withGlance K k g =
+-- with an item more, whose start and whether it is noted are said
+abbrev keptWith : TagSet → Kept → Header → ℕ → TagSet → Kept
+keptWith K k h at present =
     record {
       passed = record {
-        here = g .past;
+        here = h .place + h .size;
         count = k .passed .count + 1;
-        last = k .passed .here;
-        longer = k .passed .longer + g .longer;
-        known = k .passed .known + counted K (g .tag);
+        last = at;
+        longer = k .passed .longer + longerIn h;
+        known = k .passed .known + counted K (oneByte (h .tag));
       };
-      places = set (k .places) (g .tag) (g .place);
-      present = noted K (k .present) (g .tag) (g .fit);
+      places = set (k .places) (oneByte (h .tag)) (foundBy h);
+      present = present;
+      withdrawn = noted K (k .withdrawn) (oneByte (h .tag)) (eqb (h .size) 0);
     }
 
-module _ (K : TagSet) (good : Good K) (w : Words K) (p : List ℕ) (by : Bytes p) (from : ℕ) (before : List ℕ) (none : TagSet) (k : Kept)
-    (g : Going K p from before none k) (inside : k .passed .here < length p) (room : k .passed .count ≡ 128 → ⊥) where
-  one-fewer : 128 - k .passed .count ≡ suc (128 - (k .passed .count + 1))
-  one-fewer = omega (arith, g .few, room)
+-- an item at a glance: its tag has one byte, and where it ends lies past where its value is found and where it starts
+module _ {p : List ℕ} {at : ℕ} {g : Glance} where
+  pub glanced-tag : SeenAt p at g → g .tag < 128
+  glanced-tag s = rw (s .same) (short-tag (s .header .tag))
 
-  going-header : (h : Header) → headerAt p (k .passed .here) ≡ given h → Going K p from before none (withHeader K k h (isFit (itemBy p h .piece)))
+  pub glanced-place : SeenAt p at g → g .place ≤ g .past
+  glanced-place s =
+      let h = s .header in
+      rw (s .same) (byBool (eqb (h .size) 0)
+      (λ z. rw z (omega arith))
+      (λ z. rw z (byBool (isExtended (h .tag)) (λ x. rw x (omega arith)) (λ x. rw x (omega arith)))))
+
+  pub glanced-on : Bytes p → SeenAt p at g → at < g .past
+  glanced-on by s = omega (arith, header-lies p at by (s .header) (s .found) .on, ap (λ x. x .past) (s .same))
+
+module _ (K : TagSet) (good : Good K) (w : Words K) (p : List ℕ) (by : Bytes p) (fresh k : Kept)
+    (g : Going K p fresh k) (inside : k .passed .here < length p) (room : k .passed .count ≡ 128 → ⊥) where
+  one-fewer : 128 - k .passed .count ≡ suc (128 - (k .passed .count + 1))
+  one-fewer = omega (arith, g .counted .few, room)
+
+  going-header : (h : Header) → headerAt p (k .passed .here) ≡ given h → Going K p fresh (withHeader K k h (isFit (itemBy p h .piece)))
   going-header h found =
       let here : ℕ = k .passed .here in
       let m : ℕ = 128 - (k .passed .count + 1) in
@@ -381,9 +444,12 @@ module _ (K : TagSet) (good : Good K) (w : Words K) (p : List ℕ) (by : Bytes p
       let rest = walk m (h .place + h .size) (drop (h .place + h .size) p) in
       let fits : Bool = isFit (itemBy p h .piece) in
       record {
-        few = omega (arith, g .few, room);
-        fewer = omega (arith, g .fewer, counted-few K (oneByte (h .tag)));
-        less = omega (arith, g .less, header-start p here h found, lies .formed);
+        counted = record {
+          few = omega (arith, g .counted .few, room);
+          fewer = omega (arith, g .counted .fewer, counted-few K (oneByte (h .tag)));
+          less = omega (arith, g .counted .less, header-start p here h found, lies .formed);
+        };
+        on = omega (arith, g .on, lies .on);
         goes =
             ap (λ i. kept K (withHeader K k i fits) rest) (sym (header-back p h (lies .inside)))
             ∙ (sym (kept-before K k (itemBy p h) rest)
@@ -391,33 +457,14 @@ module _ (K : TagSet) (good : Good K) (w : Words K) (p : List ℕ) (by : Bytes p
             ∙ (ap (λ n. kept K k (walk n here (drop here p))) (sym one-fewer) ∙ g .goes)));
       }
 
-  pub going-glance : (i : Glance) → Glances p (k .passed .here) i → i .past ≤ length p → Going K p from before none (withGlance K k i)
+  pub going-glance : (i : Glance) → Glances p (k .passed .here) i → i .past ≤ length p → Going K p fresh (withGlance K k i)
   going-glance i s within =
       let seen = s .item within in
       let h = seen .header in
-      let fits : noted K (k .present) (oneByte (h .tag)) (isFit (itemBy p h .piece)) ≡ noted K (k .present) (oneByte (h .tag)) (i .fit) =
-      sym (noted-same K good w (k .present) (h .tag) (i .fit) (isFit (itemBy p h .piece)) (seen .fits)) in
-      let start = header-start p (k .passed .here) h (seen .found) in
-      subst (λ j. Going K p from before none (withGlance K k j)) (sym (seen .same))
-      (subst (λ at. Going K p from before none (record {
-        passed = record {
-          here = h .place + h .size;
-          count = k .passed .count + 1;
-          last = at;
-          longer = k .passed .longer + longerIn h;
-          known = k .passed .known + counted K (oneByte (h .tag));
-        };
-        places = set (k .places) (oneByte (h .tag)) (foundBy h);
-        present = noted K (k .present) (oneByte (h .tag)) (i .fit);
-      })) start
-      (subst (λ s. Going K p from before none (record {
-        passed = record {
-          here = h .place + h .size;
-          count = k .passed .count + 1;
-          last = h .start;
-          longer = k .passed .longer + longerIn h;
-          known = k .passed .known + counted K (oneByte (h .tag));
-        };
-        places = set (k .places) (oneByte (h .tag)) (foundBy h);
-        present = s;
-      })) fits (going-header h (seen .found))))
+      let fits : Bool = isFit (itemBy p h .piece) in
+      let same : noted K (k .present) (oneByte (h .tag)) fits ≡ noted K (k .present) (oneByte (h .tag)) (i .fit) =
+      sym (noted-same K good w (k .present) (h .tag) (i .fit) fits (seen .fits)) in
+      let start : h .start ≡ k .passed .here = header-start p (k .passed .here) h (seen .found) in
+      subst (λ j. Going K p fresh (withGlance K k j)) (sym (seen .same))
+      (subst (λ at. Going K p fresh (keptWith K k h at (noted K (k .present) (oneByte (h .tag)) (i .fit)))) start
+      (subst (λ s. Going K p fresh (keptWith K k h (h .start) s)) same (going-header h (seen .found))))

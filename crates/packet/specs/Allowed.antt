@@ -8,7 +8,7 @@ use Rattle.number.specs.Stored.{valueOf}
 use Rattle.ber.specs.Written.{tagBytes}
 use Rattle.ber.specs.Forms.{LengthForm}
 use Rattle.checksum.specs.Sum.{checksumOf}
-use Rattle.catalogue.specs.Shapes.{lengthAllowed, codeAllowed}
+use Rattle.catalogue.specs.Shapes.{rightLength, codeAllowed}
 use Rattle.packet.specs.Pieces.{Piece, Item, pieces}
 use Rattle.packet.specs.Structure.{key}
 use Rattle.packet.specs.Judge.{Knowing}
@@ -59,8 +59,8 @@ pieceAt cs k = getD cs k (record { tag = 0; value = [] })
 
 -- the rules of the items that a receiver knows
 pub record Clean (K : Knowing) (cs : List Piece) : Type 0 where
-  -- 12: "known item of wrong length"
-  pub sized : (k : ℕ) → k < length cs → K (pieceAt cs k .tag) ≡ true → lengthAllowed (pieceAt cs k .tag) (length (pieceAt cs k .value)) ≡ true
+  -- 12: "known item of wrong length"; W-204: "12 no longer for length zero, except at 1, 2 and 65"
+  pub sized : (k : ℕ) → k < length cs → K (pieceAt cs k .tag) ≡ true → rightLength (pieceAt cs k .tag) (length (pieceAt cs k .value)) ≡ true
   -- 13: "known tag a second time"
   pub once : (j k : ℕ) → j < k → k < length cs → K (pieceAt cs k .tag) ≡ true → pieceAt cs j .tag ≡ pieceAt cs k .tag → ⊥
   -- 14: "item 34 or 63 outside its codes"; W-202 adds "14 for a code beyond 40,000 m"

@@ -6,7 +6,7 @@ use mathlib.Core.List.{List, [], _∷_}
 use lib.ListN.{length}
 use lib.Dec.{eqb}
 use Rattle.number.specs.Stored.{valueOf}
-use Rattle.catalogue.specs.Shapes.{shapeOf, shapeAllows, codeAllowed}
+use Rattle.catalogue.specs.Shapes.{shapeOf, sizeAllowed, codeAllowed}
 use Rattle.packet.specs.Pieces.{Piece}
 use Rattle.packet.specs.declared.Looked.{Looked}
 
@@ -29,7 +29,7 @@ pub data Fault : Type 0 where
 -- the one rule of a known item, by what is looked at in it
 abbrev pub faultBy : Looked → Fault
 faultBy l =
-    cond (shapeAllows (l .shape) (l .size))
+    cond (sizeAllowed (l .tag) (l .shape) (l .size))
     (cond (l .twice) (wrong 13) (cond (codeAllowed (l .tag) (l .size) (l .code)) clean (wrong 14)))
     (wrong 12)
 

@@ -16,7 +16,7 @@ pub use Rattle.rows.specs.Meaning.{isNumber}
 pub use Rattle.rows.specs.declared.RowWords.{RowWords}
 unfoldable pub use Rattle.rows.specs.Meaning.{shapeFor}
 use Rattle.rows.specs.Taken.{partPlace, partLength, rowSays, rowAt}
-use Rattle.rows.specs.Present.{presentIn}
+use Rattle.rows.specs.Present.{presentIn, withdrawnIn}
 pub use Rattle.rows.specs.declared.Filled.{Filled}
 use Rattle.packet.specs.Pieces.{Piece, Item}
 use Rattle.packet.specs.Judge.{Knowing}
@@ -37,9 +37,12 @@ unfoldable pub lentVerdict : TagSet → List ℕ → List ℕ → Answer (List I
 lentVerdict K p t =
     cond (good K) (cond (ltb (length t) 512) (refused 2 0 0) (verdict (holds K) p)) (refused 1 0 0)
 
--- the table of an accepted packet: how many rows it has, and W-201's "two words beside the rows"
+-- the table of an accepted packet: how many rows it has, W-201's "two words beside the rows", and those of the withdrawn rows
+abbrev pub filledWith : ℕ → List RowWords → Filled
+filledWith count rs = record { count = count; present = presentIn rs; withdrawn = withdrawnIn rs }
+
 abbrev pub filledBy : Knowing → List Item → Filled
-filledBy K is = record { count = length is; present = presentIn (rowsOf K is) }
+filledBy K is = filledWith (length is) (rowsOf K is)
 
 unfoldable pub readAnswer : TagSet → List ℕ → List ℕ → Answer Filled
 readAnswer K p t = map (filledBy (holds K)) (lentVerdict K p t)
@@ -74,7 +77,7 @@ piecesOf K b [] = []
 piecesOf K b (r ∷ rs) = pieceOf K b r ∷ piecesOf K b rs
 
 -- The same table is "the same count, tags, kinds, codes and lengths, and for text and carried rows the same value bytes; places and
--- the checksum's code are left aside." b and c are the buffers that the rows point into.
+-- the checksum's code are left aside." b and c are the buffers that the rows point into. A withdrawn row has no bytes there.
 pub record SameRow (b c : List ℕ) (r s : RowWords) : Type 0 where
   pub tag : r .tag ≡ s .tag
   pub kind : r .kind ≡ s .kind

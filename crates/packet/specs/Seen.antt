@@ -1,5 +1,5 @@
 -- Document 01, Rows: "A row is four 64-bit words: tag; kind (1 reading, 2 mark, 3 text, 4 carried); the stored code as an
--- unsigned number (0 for text and carried); place of the value × 65,536 + its length."
+-- unsigned number (0 for text and carried); place of the value × 65,536 + its length." W-204: "a fifth kind, withdrawn, with code 0 and length 0"
 use Prim.Native.Nat.{_+_, _*_}
 use mathlib.Core.List.{List, [], _∷_}
 use lib.ListN.{length}

@@ -3,14 +3,14 @@ use Prim.Native.Nat.{ℕ, zero, suc, _+_}
 use mathlib.Core.Path.{_≡_}
 use mathlib.Core.Bool.{cond}
 use mathlib.Core.List.{List, [], _∷_}
-use lib.Dec.{ltb}
+use lib.Dec.{ltb, eqb}
 use lib.ListN.{length, set, replicate}
 use Rattle.refusal.specs.Answer.{Answer, given, refused, map, then, orElse}
 use Rattle.tagset.specs.Sets.{holds}
 use Rattle.tagset.specs.declared.TagSet.{TagSet}
 use Rattle.knowing.specs.Good.{good}
 use Rattle.catalogue.specs.Extended.{isExtended}
-use Rattle.rows.specs.Present.{presentIn}
+use Rattle.rows.specs.Present.{presentIn, withdrawnIn}
 use Rattle.packet.specs.declared.Accepted.{Accepted}
 use Rattle.packet.specs.declared.Located.{Located}
 use Rattle.packet.specs.Said.{checkSaid}
@@ -41,18 +41,20 @@ verdict K p = then (structure p) (judged K)
 unfoldable pub received : TagSet → List ℕ → Answer (List Item)
 received K p = cond (good K) (verdict (holds K) p) (refused 1 0 0)
 
--- where the items begin, how many there are, by how many bytes their lengths are longer than in their shortest forms, and the two words
--- that W-201 keeps beside the rows that the receiver would make of them
+-- where the items begin, how many there are, by how many bytes their lengths are longer than in their shortest forms, and of the rows that the
+-- receiver would make of them W-201's two words and those of the withdrawn ones
 abbrev pub bodyOf : Knowing → List Item → Accepted
-bodyOf K is = record { from = startOf 0 is; count = length is; longer = longerOf is; present = presentIn (rowsOf K is) }
+bodyOf K is =
+    let rs = rowsOf K is in
+    record { from = startOf 0 is; count = length is; longer = longerOf is; present = presentIn rs; withdrawn = withdrawnIn rs }
 
 unfoldable pub checked : TagSet → List ℕ → Answer Accepted
 checked K p = map (bodyOf (holds K)) (received K p)
 
 -- where a value is found: by the place past it, since its tag tells its length; an extended height, whose tag does not (W-202), by its own place,
--- before which its length stands
+-- before which its length stands; an item of no bytes (W-204) has none to be found
 abbrev pub foundAt : ℕ → ℕ → ℕ → ℕ
-foundAt t place size = cond (isExtended t) place (place + size)
+foundAt t place size = cond (eqb size 0) 0 (cond (isExtended t) place (place + size))
 
 -- for each tag below 128 where its last item's value is found, 0 where there is none; and at 0 that of the tags from 128 on
 abbrev pub oneByte : ℕ → ℕ

@@ -1,14 +1,14 @@
 // A packet checked: structure, then what the receiver knows of its items, in one walk.
 // A packet is accepted exactly when document 01 allows it, and is refused by the first refusal in its order.
 ghost use mathlib.Core.Path.{_≡_};
-ghost use mathlib.Core.Bool.{true};
+ghost use mathlib.Core.Bool.{true, false};
 ghost use Prim.Native.Nat.{_+_, _-_, _%_, _^_, _<_, _≤_};
 ghost use lib.ListN.{length, take, drop, getD};
 ghost use Rattle.refusal.specs.Numbers.{number};
 ghost use Rattle.refusal.specs.Answer.{refused as refusedBy, refusal as refusalOf};
 ghost use Rattle.tagset.specs.Sets.{holds};
 ghost use Rattle.knowing.specs.Good.{good};
-ghost use Rattle.catalogue.specs.code.Column.{shapeColumn, widthColumn};
+ghost use Rattle.catalogue.specs.code.Column.{shapeColumn, maskColumn, within};
 ghost use Rattle.packet.specs.Judge.{faultBy, faultOf};
 ghost use Rattle.packet.specs.Said.{stepSaid, headerAt, faultSaid, rightSaid, checkSaid};
 ghost use Rattle.packet.specs.Pieces.{walk as walkItems};
@@ -16,9 +16,11 @@ ghost use Rattle.packet.specs.Ends.{rightEnds};
 ghost use Rattle.packet.specs.Structure.{key, same, frame};
 ghost use Rattle.packet.specs.Verdict.{oneByte, checked, Locates};
 ghost use Rattle.packet.specs.code.Headers.{itemBy, shortForms};
-ghost use Rattle.packet.specs.code.Passing.{longerIn, shortest, sized, FitAs, foundBy, Glances, TwoWords, setOf, Notes, Passes, Stops};
-ghost use Rattle.packet.specs.code.Concluded.{frameSaid, WalksFrom, judgedFrom, headerIn, endsBy, summedAt, closedBy, codedIn, cleanIn};
-ghost use Rattle.packet.specs.code.Concluded.{begunBy, PlacesIn, Whole, rightFrom, Begins, ChecksFrom};
+ghost use Rattle.packet.specs.code.Passing.{longerIn, shortest, FitAs, foundBy, Glances, asksClose, maskAt, GlancesNoting, TwoWords, setOf, Notes};
+ghost use Rattle.packet.specs.code.Passing.{keptBy, Counted, Keeps, PassesPlain};
+ghost use Rattle.packet.specs.code.Passing.{freshAt, Passes, Stops};
+ghost use Rattle.packet.specs.code.Concluded.{frameSaid, WalksFrom, judgedFrom, headerIn, endsBy, summedAt, closedBy, codedIn, foundIn};
+ghost use Rattle.packet.specs.code.Concluded.{wholeIn, cleanIn, begunBy, PlacesIn, Whole, rightFrom, Begins, ChecksFrom};
 use catalogue::Shape;
 use refusal::Reason;
 use refusal::Refusal;
@@ -143,7 +145,7 @@ pub fn fault_of(item: Looked) -> Fault
     ensures { λ r. ⌜ faultSaid r ≡ faultBy item ⌝ }
 {
     let shape = item.shape;
-    if catalogue::allows_length(shape, item.size) {
+    if catalogue::allows_size(item.tag, shape, item.size) {
         if item.twice {
             return Fault::Wrong(Reason::KnownTagTwice);
         }
@@ -233,11 +235,13 @@ fn judged(packet: &[u8], from: usize, known: TagSet) -> Right
     })
 }
 
-// An item at a glance: its tag where one byte says it, else 0, which no item has; where its tag is known, whether it is fit; where its value is
-// found; the place past it, which is past the packet where there is no item; by how many bytes its length is longer than in its shortest form.
+// An item at a glance: its tag where one byte says it, else 0, which no item has; where its tag is known, whether it is fit; whether it has no
+// bytes; where its value is found; the place past it, which is past the packet where there is no item; by how many bytes its length is longer than in
+// its shortest form.
 struct Glance {
     tag: usize,
     fit: bool,
+    empty: bool,
     place: usize,
     past: usize,
     longer: usize,
@@ -260,34 +264,43 @@ fn longer_by(item: Header) -> usize
     item.place - item.start - ber::tag_size(item.tag) - ber::length_size(item.size as u64)
 }
 
-// Whether a length is the width, or any but 0 for a text, which has none: without a branch.
-fn is_sized(width: u8, size: usize) -> bool
-    ensures { λ r. ⌜ r ≡ sized width size ⌝ }
+// Whether a length lies within a mask: without a branch.
+fn is_within(mask: u8, size: u8) -> bool
+    ensures { λ r. ⌜ r ≡ within mask size ⌝ }
 {
-    (size == width as usize) != (width == 0)
+    (size | mask) == mask
 }
 
-// Whether an item is fit: its length is allowed, and of an extended height its code too.
+// Whether an item is fit: it has no bytes, or its length is allowed, and of an extended height its code too.
 fn is_fit(packet: &[u8], column: &[u8; 128], item: Header) -> bool
-    requires { ⌜ (now column ≡ widthColumn) × (item .place + item .size ≤ length (now packet)) ⌝ }
+    requires { ⌜ (now column ≡ maskColumn) × (item .place + item .size ≤ length (now packet)) ⌝ }
     ensures { λ r. ⌜ FitAs (now (packet .entry)) item r ⌝ }
 {
     let tag = one_byte(item.tag);
     let size = item.size;
+    if size == 0 {
+        return true;
+    }
     if catalogue::is_extended(tag as u64) {
         let place = item.place;
         let end = place + size;
         return catalogue::is_in_reach(size, number::value(&packet[place..end]));
     }
-    is_sized(column[tag], one_byte(size as u64))
+    if 128 <= size {
+        return false;
+    }
+    is_within(column[tag], size as u8)
 }
 
 // Where the value of an item is found: by the place past it, for its tag tells its length; that of an extended height, which does not, by its
-// own place, before which its length stands.
+// own place, before which its length stands; where there are no bytes, nowhere.
 fn found_at(item: Header) -> usize
     requires { ⌜ item .place + item .size < 2 ^ 64 ⌝ }
     ensures { λ r. ⌜ r ≡ foundBy item ⌝ }
 {
+    if item.size == 0 {
+        return 0;
+    }
     if catalogue::is_extended(item.tag) {
         return item.place;
     }
@@ -296,13 +309,14 @@ fn found_at(item: Header) -> usize
 
 // Any item at a glance.
 fn any_glance_at(packet: &[u8], column: &[u8; 128], at: usize) -> Glance
-    requires { ⌜ now column ≡ widthColumn ⌝ }
+    requires { ⌜ now column ≡ maskColumn ⌝ }
     ensures { λ r. ⌜ Glances (now (packet .entry)) at r ⌝ }
 {
     match any_item_at(packet, at) {
         Step::Refused(_) => Glance {
             tag: 0,
             fit: false,
+            empty: false,
             place: 0,
             past: packet.len() + 1,
             longer: 0,
@@ -310,6 +324,7 @@ fn any_glance_at(packet: &[u8], column: &[u8; 128], at: usize) -> Glance
         Step::Item(item) => Glance {
             tag: one_byte(item.tag),
             fit: is_fit(packet, column, item),
+            empty: item.size == 0,
             place: found_at(item),
             past: item.place + item.size,
             longer: longer_by(item),
@@ -317,26 +332,57 @@ fn any_glance_at(packet: &[u8], column: &[u8; 128], at: usize) -> Glance
     }
 }
 
-// Most items have a tag and a length of one byte each, and need no closer look; tag 0 asks for one, for it is none.
-fn glance_at(packet: &[u8], column: &[u8; 128], at: usize) -> Glance
-    requires { ⌜ (now column ≡ widthColumn) × (at + 2 ≤ length (now packet)) ⌝ }
-    ensures { λ r. ⌜ Glances (now (packet .entry)) at r ⌝ }
+// Any item at a glance; the tag of a known one that has no bytes is noted.
+fn close_glance_at(
+    packet: &[u8],
+    column: &[u8; 128],
+    words: &[u64; 2],
+    withdrawn: &mut [u64; 2],
+    at: usize,
+) -> Glance
+    requires { ⌜ (now column ≡ maskColumn) × TwoWords (now words) × TwoWords (now withdrawn) ⌝ }
+    ensures { λ r. ⌜ GlancesNoting (now (packet .entry)) (now (words .entry)) (now (withdrawn .entry)) at r (now (withdrawn .exit)) ⌝ }
+{
+    let item = any_glance_at(packet, column, at);
+    if item.empty {
+        note(words, withdrawn, item.tag, true);
+    }
+    item
+}
+
+// Whether a tag and a length ask for a closer look: of more than one byte, or no bytes.
+fn is_close(tag: u8, size: u8) -> bool
+    ensures { λ r. ⌜ r ≡ asksClose tag size ⌝ }
+{
+    if 128 <= (tag | size) {
+        return true;
+    }
+    size == 0
+}
+
+// The mask of the lengths of the item at a place, 128 where it asks for a closer look; tag 0 does, for it is none.
+fn mask_at(packet: &[u8], column: &[u8; 128], at: usize) -> u8
+    requires { ⌜ (now column ≡ maskColumn) × (at + 2 ≤ length (now packet)) ⌝ }
+    ensures { λ r. ⌜ r ≡ maskAt (now (packet .entry)) at ⌝ }
+{
+    let tag = packet[at];
+    if is_close(tag, packet[at + 1]) {
+        return 128;
+    }
+    column[tag as usize]
+}
+
+// Most items have a tag and a length of one byte each, and need no closer look.
+fn glance_at(packet: &[u8], mask: u8, at: usize) -> Glance
+    requires { ⌜ (at + 2 ≤ length (now packet)) × (mask ≡ maskAt (now packet) at) × (mask < 128) ⌝ }
+    ensures { λ r. ⌜ Glances (now (packet .entry)) at r × (r .empty ≡ false) ⌝ }
 {
     let after = at + 1;
-    let tag = packet[at] as usize;
-    let size = packet[after] as usize;
-    let width = if 128 <= (packet[at] | packet[after]) {
-        128
-    } else {
-        column[tag]
-    };
-    if 128 <= width {
-        return any_glance_at(packet, column, at);
-    }
-    let past = after + 1 + size;
+    let past = after + 1 + packet[after] as usize;
     Glance {
-        tag,
-        fit: is_sized(width, size),
+        tag: packet[at] as usize,
+        fit: is_within(mask, packet[after]),
+        empty: false,
         place: past,
         past,
         longer: 0,
@@ -366,21 +412,81 @@ struct Passed {
     known: usize,
 }
 
-// All items from a place to the packet's end, at most 128 of them, without a branch for what most items are; for each tag where its last value
-// is found, and in two words the tags of the known ones that are fit. An item has two bytes, so none begins with the last one.
+// Keeps an item: for its tag where its value is found, and in the two words its tag, if it is known and fit.
+fn keep(
+    words: &[u64; 2],
+    places: &mut [u16; 128],
+    present: &mut [u64; 2],
+    passed: Passed,
+    item: Glance,
+) -> Passed
+    requires { ⌜ TwoWords (now words) × TwoWords (now present) × (item .tag < 128) × (item .place ≤ 8192) × (passed .count ≤ 128)
+        × (passed .known ≤ passed .count) × (passed .longer + item .longer ≤ 8192) ⌝ }
+    ensures { λ r. ⌜ Keeps (now (words .entry)) (now (places .entry)) (now (present .entry)) passed item r (now (places .exit)) (now (present .exit)) ⌝ }
+{
+    let tag = item.tag;
+    let one = note(words, present, tag, item.fit);
+    places[tag] = item.place as u16;
+    Passed {
+        here: item.past,
+        count: passed.count + 1,
+        last: passed.here,
+        longer: passed.longer + item.longer,
+        known: passed.known + one,
+    }
+}
+
+// The items from where a walk stands on that need no closer look, without a branch for what they are. An item has two bytes, so none begins with
+// the last one.
+fn pass_plain(
+    packet: &[u8],
+    column: &[u8; 128],
+    words: &[u64; 2],
+    places: &mut [u16; 128],
+    present: &mut [u64; 2],
+    from: Passed,
+) -> Passed
+    requires { ⌜ (now column ≡ maskColumn) × TwoWords (now words) × (good (setOf (now words)) ≡ true) × TwoWords (now present)
+        × (2 ≤ length (now packet)) × (length (now packet) ≤ 8192) × Counted from ⌝ }
+    ensures { λ r. ⌜ PassesPlain (setOf (now (words .entry))) (now (packet .entry)) (now (places .entry)) (now (present .entry)) from r
+        (now (places .exit)) (now (present .exit)) ⌝ }
+{
+    let last_byte = packet.len() - 1;
+    let mut passed = from;
+    while passed.here < last_byte {
+        if passed.count == 128 {
+            return passed;
+        }
+        let mask = mask_at(packet, column, passed.here);
+        if 128 <= mask {
+            return passed;
+        }
+        let item = glance_at(packet, mask, passed.here);
+        if packet.len() < item.past {
+            return passed;
+        }
+        passed = keep(words, places, present, passed, item);
+    }
+    passed
+}
+
+// All items from a place to the packet's end, at most 128 of them; for each tag where its last value is found, in two words the tags of the known
+// ones that are fit, and in two more those of the known ones that have no bytes.
 fn pass(
     packet: &[u8],
     from: usize,
     known: TagSet,
     places: &mut [u16; 128],
     present: &mut [u64; 2],
+    withdrawn: &mut [u64; 2],
 ) -> Passed
     requires { ⌜ (good known ≡ true) × (2 ≤ length (now packet)) × (length (now packet) ≤ 8192) × (from ≤ length (now packet))
-        × TwoWords (now present) ⌝ }
-    ensures { λ r. ⌜ Passes known (now (packet .entry)) from (now (places .entry)) (setOf (now (present .entry))) r (now (places .exit))
-        (setOf (now (present .exit))) ⌝ }
+        × TwoWords (now present) × TwoWords (now withdrawn) ⌝ }
+    ensures { λ r. ⌜ Passes known (now (packet .entry))
+        (freshAt from (now (places .entry)) (setOf (now (present .entry))) (setOf (now (withdrawn .entry))))
+        (keptBy r (now (places .exit)) (setOf (now (present .exit))) (setOf (now (withdrawn .exit)))) ⌝ }
 {
-    let column = catalogue::widths();
+    let column = catalogue::length_masks();
     let words = [known.low, known.high];
     let last_byte = packet.len() - 1;
     let mut passed = Passed {
@@ -391,26 +497,18 @@ fn pass(
         known: 0,
     };
     while passed.here < last_byte {
-        let here = passed.here;
-        let count = passed.count;
-        if count == 128 {
+        passed = pass_plain(packet, &column, &words, places, present, passed);
+        if last_byte <= passed.here {
             return passed;
         }
-        let item = glance_at(packet, &column, here);
-        let tag = item.tag;
-        let end = item.past;
-        if packet.len() < end {
+        if passed.count == 128 {
             return passed;
         }
-        let one = note(&words, present, tag, item.fit);
-        places[tag] = item.place as u16;
-        passed = Passed {
-            here: end,
-            count: count + 1,
-            last: here,
-            longer: passed.longer + item.longer,
-            known: passed.known + one,
-        };
+        let item = close_glance_at(packet, &column, &words, withdrawn, passed.here);
+        if packet.len() < item.past {
+            return passed;
+        }
+        passed = keep(&words, places, present, passed, item);
     }
     passed
 }
@@ -465,12 +563,13 @@ fn framed(packet: &[u8]) -> Frame
 }
 
 // An accepted packet: where its items begin, how many there are, by how many bytes their forms are longer than the shortest, and as two
-// words the tags of the known ones.
+// words each the tags of the known ones and of those of them that are withdrawn.
 pub struct Accepted {
     pub from: usize,
     pub count: usize,
     pub longer: usize,
     pub present: TagSet,
+    pub withdrawn: TagSet,
 }
 
 pub enum Checked {
@@ -580,7 +679,7 @@ fn closed(packet: &[u8], from: usize, last: Header) -> Right
     }
 }
 
-// Whether an item of one byte is not known, not there, or has one of its codes.
+// Whether an item of one byte is not known, has no value, or has one of its codes.
 fn is_coded(packet: &[u8], known: TagSet, places: &[u16; 128], tag: usize) -> bool
     requires { ⌜ (tag < 128) × (getD (now places) tag 0 ≤ length (now packet)) ⌝ }
     ensures { λ r. ⌜ r ≡ codedIn known (now (packet .entry)) (now (places .entry)) tag ⌝ }
@@ -594,7 +693,27 @@ fn is_coded(packet: &[u8], known: TagSet, places: &[u16; 128], tag: usize) -> bo
     true
 }
 
-// Whether nothing is wrong with the known items: each was noted by its own tag, 34 and 63 have their codes, and item 65 is there.
+// Whether a value was found for a tag.
+fn is_found(places: &[u16; 128], tag: usize) -> bool
+    requires { ⌜ tag < 128 ⌝ }
+    ensures { λ r. ⌜ r ≡ foundIn (now (places .entry)) tag ⌝ }
+{
+    places[tag] != 0
+}
+
+// Whether what a packet needs has a value: 1, 2 and 65.
+fn is_whole(places: &[u16; 128]) -> bool
+    ensures { λ r. ⌜ r ≡ wholeIn (now (places .entry)) ⌝ }
+{
+    if is_found(places, 1) {
+        if is_found(places, 2) {
+            return is_found(places, 65);
+        }
+    }
+    false
+}
+
+// Whether nothing is wrong with the known items: each was noted by its own tag, 34 and 63 have their codes, and what a packet needs has a value.
 fn is_clean(
     packet: &[u8],
     known: TagSet,
@@ -608,13 +727,18 @@ fn is_clean(
     if tagset::size_of(present) != count {
         return false;
     }
-    if places[65] == 0 {
-        return false;
-    }
-    if is_coded(packet, known, places, 34) {
-        return is_coded(packet, known, places, 63);
+    if is_whole(places) {
+        if is_coded(packet, known, places, 34) {
+            return is_coded(packet, known, places, 63);
+        }
     }
     false
+}
+
+// The tags that a walk has noted: of the known items that are fit, and of those that have no bytes.
+struct Noted {
+    present: TagSet,
+    withdrawn: TagSet,
 }
 
 // First, last and sum of the items passed; then the exact walk names the fault, if something is wrong.
@@ -623,16 +747,16 @@ fn concluded(
     from: usize,
     known: TagSet,
     places: &[u16; 128],
-    present: TagSet,
+    noted: Noted,
     passed: Passed,
 ) -> Right
-    requires { ⌜ Whole known (now packet) from passed (now places) present ⌝ }
+    requires { ⌜ Whole known (now packet) from (keptBy passed (now places) (noted .present) (noted .withdrawn)) ⌝ }
     ensures { λ r. ⌜ rightSaid r ≡ rightFrom known (now (packet .entry)) from ⌝ }
 {
     match closed(packet, from, header_at(packet, passed.last)) {
         Right::Refused(refusal) => Right::Refused(refusal),
         Right::Yes => {
-            if is_clean(packet, known, places, present, passed.known) {
+            if is_clean(packet, known, places, noted.present, passed.known) {
                 return Right::Yes;
             }
             judged(packet, from, known)
@@ -665,24 +789,31 @@ fn check_from(packet: &[u8], from: usize, known: TagSet, places: &mut [u16; 128]
     ensures { λ r. ⌜ ChecksFrom known (now (packet .entry)) from r (now (places .exit)) ⌝ }
 {
     let mut words = [0u64; 2];
-    let passed = pass(packet, from, known, places, &mut words);
+    let mut empty = [0u64; 2];
+    let passed = pass(packet, from, known, places, &mut words, &mut empty);
     let present = TagSet {
         low: words[0],
         high: words[1],
     };
+    let withdrawn = TagSet {
+        low: empty[0],
+        high: empty[1],
+    };
+    let noted = Noted { present, withdrawn };
     let here = passed.here;
     let count = passed.count;
     let longer = passed.longer;
     if here < packet.len() {
         return Checked::Refused(stopped(packet, here, count));
     }
-    match concluded(packet, from, known, places, present, passed) {
+    match concluded(packet, from, known, places, noted, passed) {
         Right::Refused(refusal) => Checked::Refused(refusal),
         Right::Yes => Checked::Accepted(Accepted {
             from,
             count,
             longer,
             present,
+            withdrawn,
         }),
     }
 }
@@ -711,7 +842,7 @@ pub fn check(packet: &[u8], known: TagSet) -> Checked
 }
 
 // The answer, and where an accepted packet's values are found: for each tag below 128 the place past its last item, of an extended height the
-// place of its value, 0 where there is none; at 0 that of the tags from 128 on.
+// place of its value, 0 where there is none or it is withdrawn; at 0 that of the tags from 128 on.
 pub struct Located {
     pub answer: Checked,
     pub places: [u16; 128],

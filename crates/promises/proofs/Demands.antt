@@ -14,7 +14,7 @@ use Rattle.refusal.specs.Numbers.{number}
 use Rattle.refusal.specs.declared.Refusal.{Refusal}
 use Rattle.refusal.proofs.Answers.{map-given}
 use Rattle.number.specs.Stored.{Bytes}
-use Rattle.tagset.specs.Sets.{holds, meet}
+use Rattle.tagset.specs.Sets.{holds}
 use Rattle.tagset.specs.declared.TagSet.{TagSet}
 use Rattle.tagset.proofs.Laws.{Words, Included}
 use Rattle.catalogue.specs.Items.{itemOf}
@@ -34,14 +34,13 @@ use Rattle.scale.proofs.Extended.{NearestHeight, CodeBelow}
 use Rattle.scale.proofs.Heights.{height-nearest, sent-below}
 use Rattle.rows.specs.declared.RowWords.{RowWords}
 use Rattle.rows.specs.Taken.{rowAt}
-use Rattle.rows.specs.Present.{presentIn}
 use Rattle.packet.specs.Verdict.{bodyOf, received, checked}
 use Rattle.packet.specs.Said.{checkSaid}
-use Rattle.packet.specs.Rows.{Filled, filledBy, tableOf, rowsIn, readAnswer, SameTable}
+use Rattle.packet.specs.Rows.{Filled, filledWith, filledBy, tableOf, rowsIn, readAnswer, SameTable}
 use Rattle.packet.specs.declared.Accepted.{Accepted}
 use Rattle.packet.specs.declared.Checked.{Checked}
 use Rattle.packet.specs.declared.Checked.the-variants as check
-use Rattle.laws.specs.Receivers.{Below, Only, SmallerRow, SameReading}
+use Rattle.laws.specs.Receivers.{Below, Only, SmallerRow, filledWithin, SameReading}
 use Rattle.laws.proofs.Accepted.{received-allowed, allowed-received, accepted-allowed}
 use Rattle.laws.proofs.Tables.{has-read, allowed-read, read-larger, read-rows, read-only}
 use Rattle.reader.specs.Reads.{Reads, readSaid}
@@ -177,7 +176,7 @@ module _ (tag n : ℕ) (i : catalogue.Item) (found : itemOf tag ≡ Known i) whe
 -- "The packet written from a table reads back as that table, places and checksum aside."
 pub written-reads-back : {K : TagSet} {count : ℕ} {words b o o′ : List ℕ} {w : Written} → Writes K count words b o (write.Packet w) o′
     → {t t′ : List ℕ} {r : Reading} → 512 ≤ length t → Reads K (take (w .size) o′) t r t′
-    → (readSaid r ≡ given (record { count = count; present = presentIn (rowsIn 0 count words) }))
+    → (readSaid r ≡ given (filledWith count (rowsIn 0 count words)))
     × SameTable b (take (w .size) o′) (rowsIn 0 count words) (rowsIn 0 count t′)
 written-reads-back {K} {count} {words} {b} {o} {o′} {w} c {t} long d =
     let s = written-read K count words b o w (sym (c .answer)) t long in
@@ -190,10 +189,10 @@ module _ {K K′ : TagSet} (g : good K ≡ true) (g′ : good K′ ≡ true) (be
   within : Included K K′
   within = record { each = below }
 
-  -- "what the fuller accepts, the poorer accepts, with the same answer for every item it knows.": row by row, and in W-201's words,
-  -- which are the fuller's within the poorer's knowing set
+  -- "what the fuller accepts, the poorer accepts, with the same answer for every item it knows.": row by row, and in W-201's words and those of
+  -- the withdrawn rows, which are the fuller's within the poorer's knowing set
   pub fuller-accepts-poorer-accepts : Words K → Words K′ → (done : Filled) → readSaid r′ ≡ given done
-      → (readSaid r ≡ given (record { count = done .count; present = meet (done .present) K }))
+      → (readSaid r ≡ given (filledWithin K done))
       × ((k : ℕ) → k < done .count → SmallerRow (holds K) (rowAt s k) (rowAt s′ k))
   fuller-accepts-poorer-accepts w w′ done e =
       let f : readAnswer K′ p t′ ≡ given done = sym (c′ .answer) ∙ e in (

@@ -16,7 +16,7 @@ use Rattle.ber.specs.Read.{Read, got, broken, readLength}
 use Rattle.checksum.specs.Sum.{checksumOf}
 use Rattle.tagset.specs.Sets.{holds}
 use Rattle.tagset.specs.declared.TagSet.{TagSet}
-use Rattle.catalogue.specs.Shapes.{shapeOf, shapeAllows, codeAllowed}
+use Rattle.catalogue.specs.Shapes.{shapeOf, sizeAllowed, codeAllowed}
 use Rattle.catalogue.specs.declared.Item as catalogue
 use Rattle.catalogue.specs.declared.Found.{Found}
 use Rattle.catalogue.specs.declared.Found.the-variants.{Known, Absent}
@@ -126,7 +126,7 @@ judge-not K seen [] = last (has 65 seen)
     last : (b : Bool) → NotTwo (byRow (cond b fine noVersion))
     last true = gives
     last false = other refl
-judge-not K seen (c ∷ cs) = item-not (K (c .tag)) (shapeAllows (shapeOf (c .tag)) (length (c .value))) (among seen (c .tag))
+judge-not K seen (c ∷ cs) = item-not (K (c .tag)) (sizeAllowed (c .tag) (shapeOf (c .tag)) (length (c .value))) (among seen (c .tag))
     (codeAllowed (c .tag) (length (c .value)) (valueOf (c .value))) (c .tag) (judgeFrom K (c .tag ∷ seen) cs) (judge-not K (c .tag ∷ seen) cs)
 
 -- and 15, of items as of rows

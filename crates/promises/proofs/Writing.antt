@@ -19,9 +19,8 @@ use Rattle.rows.proofs.Laws.{count-good}
 use Rattle.packet.specs.Pieces.{Piece}
 use Rattle.packet.specs.Judge.{Knowing}
 use Rattle.packet.specs.Encode.{encode}
-use Rattle.rows.specs.Present.{presentIn}
-use Rattle.packet.specs.Rows.{rowsIn, piecesOf, lentVerdict, readAnswer, readTable, SameTable, noRows, oneMore}
-use Rattle.laws.proofs.Present.{same-present}
+use Rattle.packet.specs.Rows.{rowsIn, piecesOf, filledWith, lentVerdict, readAnswer, readTable, SameTable, noRows, oneMore}
+use Rattle.laws.proofs.Present.{same-present, same-withdrawn}
 use Rattle.laws.proofs.Written.{Sendable}
 use Rattle.laws.proofs.Rows.{all-tagged}
 use Rattle.laws.proofs.Tables.{rows-in-table, rows-count, items-count}
@@ -86,7 +85,7 @@ module _ (K : TagSet) (count : ℕ) (words b o : List ℕ) (done : Written) wher
     bytes-written = rw (wrote .is, wrote .size) (take-append-seam (encode cs) (drop (length (encode cs)) o))
 
     pub written-read : (t : List ℕ) → 512 ≤ length t
-        → (readAnswer K (take (done .size) (writeOutput K count words b o)) t ≡ given (record { count = count; present = presentIn (rowsIn 0 count words) }))
+        → (readAnswer K (take (done .size) (writeOutput K count words b o)) t ≡ given (filledWith count (rowsIn 0 count words)))
         × SameTable b (take (done .size) (writeOutput K count words b o)) (rowsIn 0 count words)
         (rowsIn 0 count (readTable K (take (done .size) (writeOutput K count words b o)) t))
     unfolding readAnswer readTable lentVerdict
@@ -96,7 +95,7 @@ module _ (K : TagSet) (count : ℕ) (words b o : List ℕ) (done : Written) wher
         let w = written-table (holds K) b (rowsIn 0 count words) one (g .rows) (can-send K count words b g) (g .pieces .faultless) in
         let k : length (w .0) ≡ count = sym (items-count (holds K) (w .0)) ∙ (sym (same-count (w .2)) ∙ rows-count 0 count words) in
         rw (bytes-written, g .knows, le-ltb (length t) 512 long, w .1, rows-in-table (holds K) (w .0) t count k)
-        (rw (k, same-present b (encode cs) (w .2)), w .2)
+        (rw (k, same-present b (encode cs) (w .2), same-withdrawn b (encode cs) (w .2)), w .2)
       where
         knows-one : holds K 1 ≡ true
         knows-one = unfold good in both-left (holds K 1) _ (wrote .rows .knows)

@@ -75,14 +75,15 @@ module _ (K : TagSet) (p t : List ℕ) where
             record { begins = begins; accepted = k .accepts; past = rw first (items-past p by (k .items) (a .found)) }
 
         pub filled : (t′ t″ : List ℕ) → t′ ≡ sets t 0 (words (rowsOf (holds K) (itemsOf K p))) → t″ ≡ sets t′ (4 * b .count) (replicate (512 - 4 * b .count) 0)
-            → Reads K p t (Rows (record { count = b .count; present = b .present })) t″
+            → Reads K p t (Rows (record { count = b .count; present = b .present; withdrawn = b .withdrawn })) t″
         unfolding readAnswer readTable
         filled t′ t″ e f =
             let v : lentVerdict K p t ≡ given (k .items) = lent-received ∙ k .accepts in
             let n : b .count ≡ length (k .items) = ap (λ x. x .count) (k .body) in
             let q : t′ ≡ sets t 0 (words (rowsOf (holds K) (k .items))) = e ∙ ap (λ w. sets t 0 (words (rowsOf (holds K) (orNone w)))) (k .accepts) in
             record {
-              answer = ap (λ x. given (record { count = x .count; present = x .present })) (k .body) ∙ sym (ap (map (filledBy (holds K))) v);
+              answer = ap (λ x. given (record { count = x .count; present = x .present; withdrawn = x .withdrawn })) (k .body)
+                  ∙ sym (ap (map (filledBy (holds K))) v);
               table = f ∙ (ap (λ l. sets l (4 * b .count) (replicate (512 - 4 * b .count) 0)) q
                   ∙ (ap (λ m. sets (sets t 0 (words (rowsOf (holds K) (k .items)))) (4 * m) (replicate (512 - 4 * m) 0)) n
                   ∙ (table-is (holds K) (k .items) t (rw (← n) few) room

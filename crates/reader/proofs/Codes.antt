@@ -15,11 +15,11 @@ use borrow.Author.Tests.{eq-eqb, ne-eqb}
 use Rattle.base.proofs.Cases.{byEq}
 use Rattle.number.specs.Stored.{Bytes, valueFrom, valueOf}
 use Rattle.number.proofs.Laws.{bytes-take, bytes-drop, bytes-value, value-bytes, value-small, bits-bytes}
-use lib.Bits.{bitAnd, and-zero-r}
+use lib.Bits.{bitAnd, and-zero-l, and-zero-r}
 use Rattle.catalogue.specs.code.Column.{shapeMask, shapeByte}
 use Rattle.catalogue.specs.declared.Shape.{Shape}
 use Rattle.catalogue.specs.declared.Shape.the-variants.{Text, Number, Absent}
-use Rattle.rows.specs.Meaning.{markCode}
+use Rattle.rows.specs.Meaning.{markCode, valueAs, carriedKind, withdrawnKind}
 use Rattle.rows.proofs.Laws.{code-seen}
 use Rattle.rows.specs.Meaning.{meaningOf, kindOf, codeOf}
 use Rattle.reader.specs.code.Filling.{Fitting, Narrow, topOf, kindBy}
@@ -114,7 +114,7 @@ pub record Tells (s : Shape) (v : List ℕ) (word : ℕ) : Type 0 where
   pub small : shapeByte s < 256
   pub few : widthBy (shapeByte s) (length v) ≤ 8
   pub code : topOf (widthBy (shapeByte s) (length v)) word / 2 ^ (64 - 8 * widthBy (shapeByte s) (length v)) ≡ codeOf (meaningOf s v)
-  pub kind : kindBy (shapeByte s) (topOf (widthBy (shapeByte s) (length v)) word) ≡ kindOf (meaningOf s v)
+  pub kind : kindBy (shapeByte s) (length v) (topOf (widthBy (shapeByte s) (length v)) word) ≡ kindOf (meaningOf s v)
 
 module _ (v : List ℕ) (word : ℕ) where
   code-none : topOf 0 word / 2 ^ 64 ≡ 0
@@ -124,20 +124,28 @@ module _ (v : List ℕ) (word : ℕ) where
   same-kind true k = omega arith
   same-kind false k = refl
 
+  -- no bytes: withdrawn, if it is not carried
+  tells-none : length v ≡ 0 → (s : Shape) → shapeByte s < 256
+      → cond (eqb (shapeByte s / 16 % 8) carriedKind) carriedKind withdrawnKind ≡ kindOf (meaningOf s v) → codeOf (meaningOf s v) ≡ 0 → Tells s v word
+  tells-none z s small kind code =
+      let w : widthBy (shapeByte s) (length v) ≡ 0 = rw z (and-zero-l (shapeByte s % 16)) in
+      let top = topOf (widthBy (shapeByte s) (length v)) word in
+      record { small = small; few = omega (arith, w); code = rw (w, code) code-none; kind = ap (λ n. kindBy (shapeByte s) n top) z ∙ kind }
+
   -- no number: a byte of no mask that has no mark
-  tells-bytes : (s : Shape) (k : ℕ) → shapeByte s < 256 → shapeByte s % 16 ≡ 0 → shapeByte s / 16 % 8 ≡ k → shapeByte s / 128 ≡ 0
+  tells-bytes : (length v ≡ 0 → ⊥) → (s : Shape) (k : ℕ) → shapeByte s < 256 → shapeByte s % 16 ≡ 0 → shapeByte s / 16 % 8 ≡ k → shapeByte s / 128 ≡ 0
       → codeOf (meaningOf s v) ≡ 0 → kindOf (meaningOf s v) ≡ k → Tells s v word
-  tells-bytes s k small mask kind mark code is =
+  tells-bytes some s k small mask kind mark code is =
       let w : widthBy (shapeByte s) (length v) ≡ 0 = rw mask (and-zero-r (length v)) in
       record {
         small = small;
         few = omega (arith, w);
         code = rw (w, code) code-none;
-        kind = rw (w, kind, mark, is) (same-kind (eqb (topOf 0 word) (2 ^ 63)) k);
+        kind = rw (w, is, ne-eqb (length v) 0 some, kind, mark) (same-kind (eqb (topOf 0 word) (2 ^ 63)) k);
       }
 
   -- a number of its length
-  module _ (last : word % 256 ^ length v ≡ valueOf v) (l m : ℕ) (k : Bool) (fits : Fitting (Number l m k) k m (length v)) where
+  module _ (some : length v ≡ 0 → ⊥) (last : word % 256 ^ length v ≡ valueOf v) (l m : ℕ) (k : Bool) (fits : Fitting (Number l m k) k m (length v)) where
     tells-number : (b : ℕ) → shapeByte (Number l m k) ≡ b → b < 256 → b % 16 ≡ shapeMask (Number l m k) → b / 16 % 8 ≡ 1 → b / 128 ≡ cond k 1 0
         → Tells (Number l m k) v word
     tells-number b e small mask kind mark =
@@ -146,23 +154,41 @@ module _ (v : List ℕ) (word : ℕ) where
         record {
           small = rw e small;
           few = rw (e, w) (fits .few);
-          code = rw (e, w) (low-is n (fits .few) word ∙ (last ∙ sym (code-seen n v l m k (valueOf v))));
-          kind = rw (e, w, kind, mark, mark-is n (fits .few) word (fits .some), last) (by-mark k (eqb (valueOf v) (markCode n)) refl (fits .one));
+          code = rw (e, w) (low-is n (fits .few) word ∙ (last ∙ sym (code-seen n v l m k (valueOf v) some)));
+          kind = rw (e, w, ne-eqb n 0 some, kind, mark, mark-is n (fits .few) word (omega arith), last)
+              (by-mark k (eqb (valueOf v) (markCode n)) refl (fits .one));
         }
       where
         by-mark : (k c : Bool) → eqb (valueOf v) (markCode (length v)) ≡ c → (k ≡ true → length v ≡ m)
-            → cond c (1 + cond k 1 0) 1 ≡ kindOf (meaningOf (Number l m k) v)
+            → cond c (1 + cond k 1 0) 1 ≡ kindOf (valueAs (Number l m k) (valueOf v) (length v) v)
         by-mark true true f one = rw (← one refl, f)
         by-mark true false f one = rw (← one refl, f)
         by-mark false true f one = refl
         by-mark false false f one = refl
 
+  -- a number's byte: that of a reading, with its mask
+  number-none : length v ≡ 0 → (l m : ℕ) (k : Bool) → shapeMask (Number l m k) ≤ 8 → Tells (Number l m k) v word
+  number-none z l m true mask =
+      let b : (144 + shapeMask (Number l m true)) / 16 % 8 ≡ 1 = omega arith in
+      tells-none z (Number l m true) (omega arith) (rw (b, z)) (rw z)
+  number-none z l m false mask =
+      let b : (16 + shapeMask (Number l m false)) / 16 % 8 ≡ 1 = omega arith in
+      tells-none z (Number l m false) (omega arith) (rw (b, z)) (rw z)
+
+  none : length v ≡ 0 → (s : Shape) → Narrow s (length v) → Tells s v word
+  none z Text f = tells-none z Text (omega arith) (rw z) (rw z)
+  none z (Number l m k) f = number-none z l m k (f .mask)
+  none z Absent f = tells-none z Absent (omega arith) refl refl
+
+  valued : (length v ≡ 0 → ⊥) → (s : Shape) → Narrow s (length v) → (length v ≤ 8 → word % 256 ^ length v ≡ valueOf v) → Tells s v word
+  valued some Text f last = tells-bytes some Text 3 (omega arith) refl refl refl (rw (ne-eqb (length v) 0 some)) (rw (ne-eqb (length v) 0 some))
+  valued some (Number l m true) f last =
+      tells-number some (last (f .fits some .few)) l m true (f .fits some) (144 + shapeMask (Number l m true)) refl
+      (omega (arith, f .mask)) (omega (arith, f .mask)) (omega (arith, f .mask)) (omega (arith, f .mask))
+  valued some (Number l m false) f last =
+      tells-number some (last (f .fits some .few)) l m false (f .fits some) (16 + shapeMask (Number l m false)) refl
+      (omega (arith, f .mask)) (omega (arith, f .mask)) (omega (arith, f .mask)) (omega (arith, f .mask))
+  valued some Absent f last = tells-bytes some Absent 4 (omega arith) refl refl refl refl refl
+
   pub tells : (s : Shape) → Narrow s (length v) → (length v ≤ 8 → word % 256 ^ length v ≡ valueOf v) → Tells s v word
-  tells Text f last = tells-bytes Text 3 (omega arith) refl refl refl refl refl
-  tells (Number l m true) f last =
-      tells-number (last (f .few)) l m true f (144 + shapeMask (Number l m true)) refl
-      (omega (arith, f .mask)) (omega (arith, f .mask)) (omega (arith, f .mask)) (omega (arith, f .mask))
-  tells (Number l m false) f last =
-      tells-number (last (f .few)) l m false f (16 + shapeMask (Number l m false)) refl
-      (omega (arith, f .mask)) (omega (arith, f .mask)) (omega (arith, f .mask)) (omega (arith, f .mask))
-  tells Absent f last = tells-bytes Absent 4 (omega arith) refl refl refl refl refl
+  tells s f last = byEq (length v) 0 (λ z. none z s f) (λ some. valued some s f last)

@@ -14,10 +14,10 @@ use Rattle.base.proofs.Every.{both-left, both-right}
 use Rattle.refusal.specs.Answer.{Answer, given, refused}
 use Rattle.tagset.specs.Sets.{holds}
 use Rattle.tagset.specs.declared.TagSet.{TagSet}
-use Rattle.catalogue.specs.Shapes.{shapeOf, shapeAllows}
+use Rattle.catalogue.specs.Shapes.{shapeOf, sizeAllowed, rightLength}
 use Rattle.catalogue.specs.declared.Shape.{Shape}
 use Rattle.catalogue.specs.declared.Shape.the-variants.{Text, Number, Absent}
-use Rattle.catalogue.proofs.Columns.{number-ranged}
+use Rattle.catalogue.proofs.Columns.{number-ranged, right-some}
 use Rattle.packet.specs.Pieces.{Item}
 use Rattle.packet.specs.code.Headers.{itemBy}
 use Rattle.packet.specs.Said.{headerAt}
@@ -29,21 +29,27 @@ use Rattle.reader.specs.code.Filling.{ItemAt, putRow, Narrow}
 use Rattle.reader.proofs.Laws.{row-more}
 
 -- an allowed length of a number lies within its mask
-narrow-shape : (t n : ℕ) (s : Shape) → shapeOf t ≡ s → shapeAllows s n ≡ true → Narrow s n
+narrow-shape : (t n : ℕ) (s : Shape) → shapeOf t ≡ s → sizeAllowed t s n ≡ true → Narrow s n
 narrow-shape t n Text e a = tt
 narrow-shape t n (Number l m k) e a =
     let r = number-ranged t l m k e in
-    let low : l ≤ n = leb-true l n (both-left (leb l n) _ a) in
-    let high : n ≤ m = leb-true n m (both-right (leb l n) _ a) in
-    record { some = omega (arith, r .some); few = omega (arith, r .few); within = r .within n low high; mask = r .mask; one = λ x. omega (arith, r .one x) }
+    record {
+      mask = r .mask;
+      fits = λ some.
+          let b = right-some t n (Number l m k) a some in
+          let low : l ≤ n = leb-true l n (both-left (leb l n) _ b) in
+          let high : n ≤ m = leb-true n m (both-right (leb l n) _ b) in
+          record { few = omega (arith, r .few); within = r .within n low high; one = λ x. omega (arith, r .one x) };
+    }
 narrow-shape t n Absent e a = tt
 
-narrow-known : (K : ℕ → Bool) (t n : ℕ) → (K t ≡ true → shapeAllows (shapeOf t) n ≡ true) → Narrow (shapeFor K t) n
+narrow-known : (K : ℕ → Bool) (t n : ℕ) → (K t ≡ true → sizeAllowed t (shapeOf t) n ≡ true) → Narrow (shapeFor K t) n
 unfolding shapeFor
 narrow-known K t n a = byBool (K t) (λ e. rw e (narrow-shape t n (shapeOf t) refl (a e))) (λ e. rw e tt)
 
 first-fits : {K : ℕ → Bool} {i : Item} {is : List Item} → AllFit K (i ∷ is) → K (i .piece .tag) ≡ true
-    → shapeAllows (shapeOf (i .piece .tag)) (length (i .piece .value)) ≡ true
+    → sizeAllowed (i .piece .tag) (shapeOf (i .piece .tag)) (length (i .piece .value)) ≡ true
+unfolding rightLength
 first-fits (oneFits a f) k = a k .size
 
 rest-fits : {K : ℕ → Bool} {i : Item} {is : List Item} → AllFit K (i ∷ is) → AllFit K is
@@ -84,7 +90,7 @@ module _ (K : TagSet) (p : List ℕ) (here n : ℕ) (t x : List ℕ) (l : Left K
         let stored : sets t (4 * n) (words (rowsOf (holds K) (itemBy p i ∷ a .ahead .items))) ≡ x = rw (a .items) at (l .stored) in
         record {
           one-left = omega (arith, few);
-          narrow = λ k. narrow-known (holds K) (i .tag) (i .size) (λ y. ap (shapeAllows (shapeOf (i .tag))) (sym k) ∙ first-fits fits y);
+          narrow = λ k. narrow-known (holds K) (i .tag) (i .size) (λ y. ap (sizeAllowed (i .tag) (shapeOf (i .tag))) (sym k) ∙ first-fits fits y);
           left = λ on t′ st. record {
             ahead = a .ahead;
             past = omega (arith, l .past);

@@ -101,12 +101,19 @@ fn lowest(top: u64, width: u64) -> u64
     top >> half >> half
 }
 
-// The kind by a shape's byte: a mark has the number after a reading's. A code at the top is the mark where only the top bit is set.
-fn kind_by(byte: u64, top: u64) -> u64
+// The kind by a shape's byte: a mark has the number after a reading's. A code at the top is the mark where only the top bit is set; what has no bytes
+// is withdrawn, if it is known.
+fn kind_by(byte: u64, size: u64, top: u64) -> u64
     requires { ⌜ byte < 256 ⌝ }
-    ensures { λ r. ⌜ r ≡ kindBy byte top ⌝ }
+    ensures { λ r. ⌜ r ≡ kindBy byte size top ⌝ }
 {
     let kind = byte / 16 % 8;
+    if size == 0 {
+        if kind == rows::CARRIED {
+            return rows::CARRIED;
+        }
+        return rows::WITHDRAWN;
+    }
     if top == 0x8000_0000_0000_0000 {
         return kind + byte / 128;
     }
@@ -128,7 +135,7 @@ fn row_of(packet: &[u8], column: &[u8; 128], known: TagSet, item: Header) -> Row
     let top = topmost(number::value(&packet[end - 8..end]), width);
     RowWords {
         tag: item.tag,
-        kind: kind_by(byte, top),
+        kind: kind_by(byte, size, top),
         code: lowest(top, width),
         part: place * 65536 + size,
     }
@@ -190,7 +197,12 @@ pub fn read(packet: &[u8], known: TagSet, table: &mut [u64]) -> Reading
                 fill(packet, accepted.from, known, table);
                 clear(table, 4 * count);
                 let present = accepted.present;
-                Reading::Rows(Filled { count, present })
+                let withdrawn = accepted.withdrawn;
+                Reading::Rows(Filled {
+                    count,
+                    present,
+                    withdrawn,
+                })
             }
         };
     }

@@ -15,7 +15,8 @@ use Rattle.tagset.specs.declared.TagSet.{TagSet}
 use Rattle.knowing.specs.Good.{good}
 use Rattle.catalogue.specs.declared.Shape.{Shape}
 use Rattle.catalogue.specs.declared.Shape.the-variants.{Text, Number, Absent}
-use Rattle.rows.specs.Meaning.{Meaning, shapeFor, kindFor, markCode, readingKind, markKind}
+use Rattle.catalogue.specs.Shapes.{isEmpty}
+use Rattle.rows.specs.Meaning.{Meaning, shapeFor, valueAs, kindOf, kindFor, markCode, readingKind, markKind, withdrawnKind}
 use Rattle.rows.specs.declared.RowWords.{RowWords}
 use Rattle.rows.specs.Taken.{tagGood, rowGood, tagShown, rowAt, GoodRow}
 use Rattle.rows.specs.declared.Part.{Part}
@@ -33,14 +34,20 @@ pub too-many : (K : TagSet) (rs : List Row) (b : List ℕ) (room : ℕ) → good
 unfolding written outgoing
 too-many K rs b room s h = rw (s, lt-leb _ _ h)
 
--- every shape gives every code a kind
-kind-some : (s : Shape) (code : ℕ) → noKind ≡ kindFor s code → ⊥
-kind-some (Number least most marked) code e =
+-- every shape gives every code and every length a kind
+kind-valued : (s : Shape) (code n : ℕ) → noKind ≡ kindOf (valueAs {A = Unit {0}} s code n tt) → ⊥
+kind-valued (Number least most marked) code n e =
     byBool (marked && eqb code (markCode most))
     (λ m. let z : noKind ≡ markKind = rw m at e in omega (arith, z))
     (λ m. let z : noKind ≡ readingKind = rw m at e in omega (arith, z))
-kind-some Text code e = omega (arith, e)
-kind-some Absent code e = omega (arith, e)
+kind-valued Text code n e = omega (arith, e)
+kind-valued Absent code n e = omega (arith, e)
+
+kind-some : (s : Shape) (code n : ℕ) → noKind ≡ kindFor s code n → ⊥
+kind-some s code n e =
+    byBool (isEmpty s n)
+    (λ m. let z : noKind ≡ withdrawnKind = rw m at e in omega (arith, z))
+    (λ m. kind-valued s code n (rw m at e))
 
 with-false : (a : Bool) → a && false ≡ false
 with-false true = refl
@@ -49,7 +56,7 @@ with-false false = refl
 -- what a word cannot hold makes a bad row for every receiver and every buffer
 pub unheld-bad : (s : Shape) (room tag : ℕ) (m : Meaning Part) → holdable (partIn m) ≡ false → rowGood s room (rowSaying tag m) ≡ false
 unfolding rowGood
-unheld-bad s room tag m e = rw (e, ne-eqb noKind (kindFor s 0) (kind-some s 0)) (with-false (tagGood tag))
+unheld-bad s room tag m e = rw (e, ne-eqb noKind (kindFor s 0 0) (kind-some s 0 0)) (with-false (tagGood tag))
 
 pub large-place-bad : (s : Shape) (room tag : ℕ) (m : Meaning Part) → 2 ^ 48 ≤ partIn m .place → rowGood s room (rowSaying tag m) ≡ false
 large-place-bad s room tag m h = unheld-bad s room tag m (rw (le-ltb (partIn m .place) (2 ^ 48) h))

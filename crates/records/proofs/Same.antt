@@ -4,7 +4,7 @@ use Prim.Native.Nat.{ℕ, zero, suc, _+_, _*_, _^_, _<_, _≤_}
 use native.Mathlib.Nat.{div-add-mod', zero-add}
 use native.Mathlib.Omega.{arith}
 use mathlib.Core.Path.{_≡_, refl, ap, sym, _∙_, subst}
-use mathlib.Core.Bool.{Bool, true, _&&_}
+use mathlib.Core.Bool.{Bool, true, false, not, _&&_}
 use mathlib.Core.List.{List, [], _∷_}
 use lib.Dec.{ltb, leb, eqb}
 use lib.ListN.{length, getD, set, replicate, length-set}
@@ -18,17 +18,17 @@ use Rattle.refusal.proofs.Answers.{given-same, passed}
 use Rattle.tagset.specs.Sets.{holds}
 use Rattle.tagset.specs.declared.TagSet.{TagSet}
 use Rattle.knowing.specs.Good.{good}
-use Rattle.catalogue.specs.Shapes.{shapeOf, shapeAllows}
+use Rattle.catalogue.specs.Shapes.{shapeOf, shapeAllows, isListed, isEmpty, isNeeded}
 use Rattle.catalogue.proofs.Columns.{number-ranged}
 use Rattle.catalogue.specs.declared.Shape.{Shape}
 use Rattle.catalogue.specs.declared.Shape.the-variants.{Text, Number, Absent}
-use Rattle.rows.specs.Meaning.{shapeFor, kindFor, markCode, readingKind, markKind, textKind, carriedKind, saidBy}
+use Rattle.rows.specs.Meaning.{shapeFor, valueAs, kindOf, kindFor, markCode, readingKind, markKind, textKind, carriedKind, withdrawnKind, saidBy}
 use Rattle.rows.specs.declared.RowWords.{RowWords}
-use Rattle.rows.specs.Taken.{partLength, tagGood, contentGood, rowGood, countGood, tagShown, rowAt, partOf, contentOf, rowTakenAt, GoodRow}
+use Rattle.rows.specs.Taken.{partLength, tagGood, withdrawnGood, contentGood, rowGood, countGood, tagShown, rowAt, partOf, contentOf, rowTakenAt, GoodRow}
 use Rattle.rows.specs.declared.Row.{Row}
 use Rattle.rows.specs.declared.Part.{Part}
 use Rattle.packet.specs.Judge.{Knowing}
-use Rattle.packet.specs.Rows.{rowsIn, pieceOf, piecesOf}
+use Rattle.packet.specs.Rows.{rowsIn, rowValue, pieceOf, piecesOf}
 use Rattle.outgoing.specs.Outgoing.{outgoing}
 use Rattle.outgoing.proofs.Stages.{good-all}
 use Rattle.rows.proofs.Laws.{count-good}
@@ -69,7 +69,8 @@ module _ (r : RowWords) where
 
   -- a number's is the row with place 0; a mark has the one length of its tag
   number-image : (least most : ℕ) (marked : Bool) → shapeOf (r .tag) ≡ Number least most marked
-      → shapeAllows (Number least most marked) (partLength (r .part)) ≡ true → r .kind ≡ kindFor (Number least most marked) (r .code)
+      → shapeAllows (Number least most marked) (partLength (r .part)) ≡ true
+      → r .kind ≡ kindOf (valueAs {A = Unit {0}} (Number least most marked) (r .code) (partLength (r .part)) tt)
       → imageOf (taken r) ≡ withPart r (partLength (r .part))
   number-image least most marked e a k =
       byBool (marked && eqb (r .code) (markCode most))
@@ -92,6 +93,11 @@ module _ (r : RowWords) where
       number kind code size k c s =
           row-is kind code (record { place = 0; length = size }) (partLength (r .part)) k c (omega arith) (omega (arith, s)) (omega (arith, s))
 
+  -- that of what is withdrawn is the row with place and length 0
+  withdrawn-image : r .kind ≡ withdrawnKind → r .code ≡ 0 → imageOf (taken r) ≡ withPart r 0
+  withdrawn-image k c =
+      image-said withdrawnKind k ∙ row-is withdrawnKind 0 (record { place = 0; length = 0 }) 0 (sym k) (sym c) (omega arith) (omega arith) refl
+
   -- what a fourth word says is put together again
   part-image : (kind : ℕ) → said kind ≡ rowWith (r .tag) kind 0 (partOf (r .part)) → r .part < 2 ^ 64 → r .kind ≡ kind → r .code ≡ 0
       → imageOf (taken r) ≡ r
@@ -102,7 +108,7 @@ module _ (r : RowWords) where
 -- what it is not to be bad, part by part
 record Fine (s : Shape) (room : ℕ) (r : RowWords) : Type 0 where
   tagged : tagGood (r .tag) ≡ true
-  kind : r .kind ≡ kindFor s (r .code)
+  kind : r .kind ≡ kindFor s (r .code) (partLength (r .part))
   content : contentGood s room r ≡ true
 
 fine : (s : Shape) (room : ℕ) (r : RowWords) → rowGood s room r ≡ true → Fine s room r
@@ -111,8 +117,8 @@ fine s room r e =
     let e′ = both-right (tagGood (r .tag)) _ e in
     record {
       tagged = both-left (tagGood (r .tag)) _ e;
-      kind = eqb-true _ _ (both-left (eqb (r .kind) (kindFor s (r .code))) _ e′);
-      content = both-right (eqb (r .kind) (kindFor s (r .code))) _ e′;
+      kind = eqb-true _ _ (both-left (eqb (r .kind) (kindFor s (r .code) (partLength (r .part)))) _ e′);
+      content = both-right (eqb (r .kind) (kindFor s (r .code) (partLength (r .part)))) _ e′;
     }
 
 fine-good : (s : Shape) (room : ℕ) (r : RowWords) → Fine s room r → rowGood s room r ≡ true
@@ -131,22 +137,49 @@ module _ (K : Knowing) (b : List ℕ) (r : RowWords) where
   number-alike least most marked f g =
       let n : ℕ = partLength (r .part) in
       let size : partLength n ≡ n = omega arith in
-      let g′ : Fine (Number least most marked) (length b) (withPart r n) = record { tagged = g .tagged; kind = g .kind; content = rw size (g .content) } in
+      let g′ : Fine (Number least most marked) (length b) (withPart r n) =
+      record { tagged = g .tagged; kind = rw size (g .kind); content = rw size (g .content) } in
       record { kept = rw f (fine-good (Number least most marked) (length b) (withPart r n) g′); piece = rw (f, size) }
+
+  withdrawn-alike : partLength (r .part) ≡ 0 → Fine (shapeFor K (r .tag)) (length b) r → isEmpty (shapeFor K (r .tag)) 0 ≡ true → Alike K b r (withPart r 0)
+  unfolding pieceOf
+  withdrawn-alike z g e =
+      let kind : r .kind ≡ withdrawnKind = rw (z, e) at (g .kind) in
+      let content : withdrawnGood (r .tag) (r .code) ≡ true = rw (z, e) at (g .content) in
+      record {
+        kept = fine-good (shapeFor K (r .tag)) (length b) (withPart r 0) (record { tagged = g .tagged; kind = rw e kind; content = rw e content });
+        piece = ap (λ v. record { tag = r .tag; value = v }) (go (shapeFor K (r .tag)));
+      }
+    where
+      go : (s : Shape) → rowValue s b (withPart r 0) ≡ rowValue s b r
+      go (Number least most marked) = rw z
+      go Text = rw z
+      go Absent = rw z
 
   same-alike : (s : RowWords) → s ≡ r → GoodRow K b r → Alike K b r s
   same-alike s e g = record { kept = rw e g; piece = ap (pieceOf K b) e }
 
   alike : r .part < 2 ^ 64 → GoodRow K b r → Alike K b r (imageOf (taken r))
-  alike h g = go (shapeFor K (r .tag)) refl (fine (shapeFor K (r .tag)) (length b) r g)
+  alike h g =
+      let p = fine (shapeFor K (r .tag)) (length b) r g in
+      byBool (isEmpty (shapeFor K (r .tag)) (partLength (r .part)))
+      (λ e. emptied e p)
+      (λ e. go (shapeFor K (r .tag)) refl e p)
     where
-      go : (s : Shape) → shapeFor K (r .tag) ≡ s → Fine s (length b) r → Alike K b r (imageOf (taken r))
-      go (Number least most marked) f p =
+      emptied : isEmpty (shapeFor K (r .tag)) (partLength (r .part)) ≡ true → Fine (shapeFor K (r .tag)) (length b) r → Alike K b r (imageOf (taken r))
+      emptied e p =
+          let z : partLength (r .part) ≡ 0 = eqb-true _ 0 (both-right (isListed (shapeFor K (r .tag))) _ e) in
+          let code = eqb-true _ _ (both-right (not (isNeeded (r .tag))) _ (rw e at (p .content))) in
+          subst (Alike K b r) (sym (withdrawn-image r (rw e at (p .kind)) code)) (withdrawn-alike z p (rw z at e))
+
+      go : (s : Shape) → shapeFor K (r .tag) ≡ s → isEmpty s (partLength (r .part)) ≡ false → Fine s (length b) r → Alike K b r (imageOf (taken r))
+      go (Number least most marked) f z p =
           let e = known-shape K (r .tag) least most marked f in
-          let a = both-left (shapeAllows (Number least most marked) (partLength (r .part))) _ (p .content) in
-          subst (Alike K b r) (sym (number-image r least most marked e a (p .kind))) (number-alike least most marked f p)
-      go Text f p = same-alike _ (part-image r textKind refl h (p .kind) (eqb-true _ _ (both-left (eqb (r .code) 0) _ (p .content)))) g
-      go Absent f p = same-alike _ (part-image r carriedKind refl h (p .kind) (eqb-true _ _ (both-left (eqb (r .code) 0) _ (p .content)))) g
+          let a = both-left (shapeAllows (Number least most marked) (partLength (r .part))) _ (rw z at (p .content)) in
+          subst (Alike K b r) (sym (number-image r least most marked e a (rw z at (p .kind)))) (number-alike least most marked f p)
+      go Text f z p =
+          same-alike _ (part-image r textKind refl h (rw z at (p .kind)) (eqb-true _ _ (both-left (eqb (r .code) 0) _ (rw z at (p .content))))) g
+      go Absent f z p = same-alike _ (part-image r carriedKind refl h (p .kind) (eqb-true _ _ (both-left (eqb (r .code) 0) _ (p .content)))) g
 
 -- ---- the table's rows are the images
 length-images : (n : ℕ) (rs : List Row) (t : List ℕ) → length (imagesInto n rs t) ≡ length t

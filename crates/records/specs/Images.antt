@@ -8,7 +8,7 @@ use lib.Seq.{sets}
 use Rattle.catalogue.specs.Shapes.{shapeOf}
 use Rattle.catalogue.specs.declared.Shape.{Shape}
 use Rattle.catalogue.specs.declared.Shape.the-variants.{Text, Number, Absent}
-use Rattle.rows.specs.Meaning.{Meaning, reading, mark, text, carried, markCode, kindOf, codeOf}
+use Rattle.rows.specs.Meaning.{Meaning, reading, mark, text, carried, withdrawn, markCode, kindOf, codeOf}
 use Rattle.rows.specs.declared.RowWords.{RowWords}
 use Rattle.rows.specs.declared.Part.{Part}
 use Rattle.rows.specs.declared.Content.{Content}
@@ -30,13 +30,15 @@ saysFor tag (content.Reading code length) = reading code length
 saysFor tag content.Mark = mark (markCode (widthOf tag)) (widthOf tag)
 saysFor tag (content.Text part) = text part
 saysFor tag (content.Carried part) = carried part
+saysFor tag content.Withdrawn = withdrawn
 
--- where its bytes stand: a number's at place 0
+-- where its bytes stand: a number's at place 0, and those of what is withdrawn, which are none (W-204)
 abbrev pub partIn : Meaning Part → Part
 partIn (reading code size) = record { place = 0; length = size }
 partIn (mark code size) = record { place = 0; length = size }
 partIn (text part) = part
 partIn (carried part) = part
+partIn withdrawn = record { place = 0; length = 0 }
 
 -- whether a word can hold place and length
 abbrev pub holdable : Part → Bool

@@ -109,6 +109,13 @@ fn image_of(row: Row) -> RowWords
         }
         Content::Text(part) => row_with(tag, rows::TEXT, 0, part),
         Content::Carried(part) => row_with(tag, rows::CARRIED, 0, part),
+        Content::Withdrawn => {
+            let nothing = Part {
+                place: 0,
+                length: 0,
+            };
+            row_with(tag, rows::WITHDRAWN, 0, nothing)
+        }
     }
 }
 

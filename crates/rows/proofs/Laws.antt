@@ -14,7 +14,9 @@ use Rattle.catalogue.specs.code.Column.{shapeColumn, shapeIn}
 use Rattle.catalogue.specs.declared.Shape.{Shape}
 use Rattle.catalogue.specs.declared.Shape.the-variants.{Text, Number, Absent}
 use Rattle.catalogue.proofs.Columns.{shape-in-column}
-use Rattle.rows.specs.Meaning.{reading, mark, text, carried, shapeFor, seenAs, markCode, kindOf, kindFor, codeOf, isNumber, saidBy}
+use Rattle.catalogue.specs.Shapes.{isEmpty}
+use Rattle.rows.specs.Meaning.{reading, mark, text, carried, withdrawn, shapeFor, valueAs, seenAs, markCode, kindOf, kindFor, codeOf}
+use Rattle.rows.specs.Meaning.{isNumber, saidBy}
 use Rattle.rows.specs.Taken.{countGood, takenSaid}
 use Rattle.rows.specs.declared.Taken.{Taken}
 use Rattle.rows.specs.declared.Taken.the-variants.{Is, Refused}
@@ -43,33 +45,51 @@ module _ {A : Type 0} (kind code size : ℕ) (a : A) where
   pub says-text : (kind ≡ 1 → ⊥) → (kind ≡ 2 → ⊥) → kind ≡ 3 → saidBy kind code size a ≡ text a
   says-text f g e = rw (ne-eqb kind 1 f, ne-eqb kind 2 g, eq-eqb kind 3 e)
 
-  pub says-carried : (kind ≡ 1 → ⊥) → (kind ≡ 2 → ⊥) → (kind ≡ 3 → ⊥) → saidBy kind code size a ≡ carried a
-  says-carried f g h = rw (ne-eqb kind 1 f, ne-eqb kind 2 g, ne-eqb kind 3 h)
+  pub says-withdrawn : kind ≡ 5 → saidBy kind code size a ≡ withdrawn
+  says-withdrawn e = rw e
+
+  pub says-carried : (kind ≡ 1 → ⊥) → (kind ≡ 2 → ⊥) → (kind ≡ 3 → ⊥) → (kind ≡ 5 → ⊥) → saidBy kind code size a ≡ carried a
+  says-carried f g h i = rw (ne-eqb kind 1 f, ne-eqb kind 2 g, ne-eqb kind 3 h, ne-eqb kind 5 i)
 
   -- a number that is no reading is a mark, and the other way round
   pub number-mark : (kind ≡ 1 → ⊥) → eqb kind 2 ≡ isNumber (saidBy kind code size a)
   number-mark f =
       byEq kind 2 (λ e. rw e)
-      (λ g. rw (ne-eqb kind 1 f, ne-eqb kind 2 g) (byBool (eqb kind 3) (λ h. rw h) (λ h. rw h)))
+      (λ g. rw (ne-eqb kind 1 f, ne-eqb kind 2 g) (byBool (eqb kind 3)
+      (λ h. rw h)
+      (λ h. rw h (byBool (eqb kind 5) (λ i. rw i) (λ i. rw i)))))
 
   pub number-reading : isNumber (saidBy kind code size a) ≡ true → (kind ≡ 2 → ⊥) → kind ≡ 1
   number-reading n f =
       byEq kind 1 (λ e. e)
       (λ g. byEq kind 3
       (λ e. clash (sym n ∙ ap isNumber (says-text g f e)))
-      (λ h. clash (sym n ∙ ap isNumber (says-carried g f h))))
+      (λ h. byEq kind 5
+      (λ e. clash (sym n ∙ ap isNumber (says-withdrawn e)))
+      (λ i. clash (sym n ∙ ap isNumber (says-carried g f h i)))))
 
--- the kind does not look at the length, nor at what text is; and what is seen is what kind and code say of it
+-- the kind does not look at what text is; and what is seen is what kind and code say of it
 module _ {A : Type 0} (size : ℕ) (a : A) where
-  pub kind-seen : (s : Shape) (code : ℕ) → kindOf (seenAs s code size a) ≡ kindFor s code
-  kind-seen (Number least most marked) code = byBool (marked && eqb code (markCode most)) (λ e. rw e) (λ e. rw e)
-  kind-seen Text code = refl
-  kind-seen Absent code = refl
+  -- of a value the kind does not look at the length either
+  pub kind-valued : {B : Type 0} (n : ℕ) (b : B) (s : Shape) (code : ℕ) → kindOf (valueAs s code size a) ≡ kindOf (valueAs s code n b)
+  kind-valued n b (Number least most marked) code = byBool (marked && eqb code (markCode most)) (λ e. rw e) (λ e. rw e)
+  kind-valued n b Text code = refl
+  kind-valued n b Absent code = refl
 
-  pub code-seen : (least most : ℕ) (marked : Bool) (code : ℕ) → codeOf (seenAs (Number least most marked) code size a) ≡ code
-  code-seen least most marked code = byBool (marked && eqb code (markCode most)) (λ e. rw e) (λ e. rw e)
+  pub kind-seen : (s : Shape) (code : ℕ) → kindOf (seenAs s code size a) ≡ kindFor s code size
+  kind-seen s code = byBool (isEmpty s size) (λ e. rw e) (λ e. rw e (kind-valued size tt s code))
 
-  pub seen-said : (s : Shape) (code : ℕ) → saidBy (kindFor s code) (codeOf (seenAs s code size a)) size a ≡ seenAs s code size a
-  seen-said (Number least most marked) code = byBool (marked && eqb code (markCode most)) (λ e. rw e) (λ e. rw e)
-  seen-said Text code = refl
-  seen-said Absent code = refl
+  pub code-valued : (least most : ℕ) (marked : Bool) (code : ℕ) → codeOf (valueAs (Number least most marked) code size a) ≡ code
+  code-valued least most marked code = byBool (marked && eqb code (markCode most)) (λ e. rw e) (λ e. rw e)
+
+  -- a number of some bytes has its code
+  pub code-seen : (least most : ℕ) (marked : Bool) (code : ℕ) → (size ≡ 0 → ⊥) → codeOf (seenAs (Number least most marked) code size a) ≡ code
+  code-seen least most marked code some = rw (ne-eqb size 0 some) (code-valued least most marked code)
+
+  valued-said : (s : Shape) (code : ℕ) → saidBy (kindOf (valueAs s code size a)) (codeOf (valueAs s code size a)) size a ≡ valueAs s code size a
+  valued-said (Number least most marked) code = byBool (marked && eqb code (markCode most)) (λ e. rw e) (λ e. rw e)
+  valued-said Text code = refl
+  valued-said Absent code = refl
+
+  pub seen-said : (s : Shape) (code : ℕ) → saidBy (kindOf (seenAs s code size a)) (codeOf (seenAs s code size a)) size a ≡ seenAs s code size a
+  seen-said s code = byBool (isEmpty s size) (λ e. rw e) (λ e. rw e (valued-said s code))

@@ -9,6 +9,8 @@ use Rattle.rows.proofs.shape_for.Kinds as shape-for-kinds
 use Rattle.rows.proofs.shape_for.Reads as shape-for-reads
 use Rattle.rows.proofs.is_good_row.Kinds as is-good-row-kinds
 use Rattle.rows.proofs.is_good_row.Reads as is-good-row-reads
+use Rattle.rows.proofs.is_good_value_row.Kinds as is-good-value-row-kinds
+use Rattle.rows.proofs.is_good_value_row.Reads as is-good-value-row-reads
 use Rattle.rows.proofs.is_good_count.Kinds as is-good-count-kinds
 use Rattle.rows.proofs.is_good_count.Reads as is-good-count-reads
 use Rattle.rows.proofs.tag_shown.Kinds as tag-shown-kinds
@@ -28,6 +30,9 @@ shape-for-determined κs a z z′ e e′ p q = p ∙ sym q
 
 pub is-good-row-determined : Answered 0 is-good-row-kinds.ps is-good-row-kinds.r is-good-row-reads.Post
 is-good-row-determined κs a z z′ e e′ p q = p ∙ sym q
+
+pub is-good-value-row-determined : Answered 0 is-good-value-row-kinds.ps is-good-value-row-kinds.r is-good-value-row-reads.Post
+is-good-value-row-determined κs a z z′ e e′ p q = p ∙ sym q
 
 pub is-good-count-determined : Answered 0 is-good-count-kinds.ps is-good-count-kinds.r is-good-count-reads.Post
 is-good-count-determined κs a z z′ e e′ p q = p ∙ sym q

@@ -1,7 +1,7 @@
 -- Document 01, Rows and Writer: which rows are bad, and a row taken out singly.
 use Prim.Native.Nat.{ℕ, _+_, _*_, _/_, _%_, _^_}
 use mathlib.Core.Path.{_≡_}
-use mathlib.Core.Bool.{Bool, true, cond, _&&_, _||_}
+use mathlib.Core.Bool.{Bool, true, not, cond, _&&_, _||_}
 use mathlib.Core.List.{List}
 use lib.ListN.{length, getD}
 use lib.Dec.{ltb, leb, eqb}
@@ -9,10 +9,10 @@ use Rattle.refusal.specs.Answer.{Answer, given, refused, refusal}
 use Rattle.tagset.specs.Sets.{holds}
 use Rattle.tagset.specs.declared.TagSet.{TagSet}
 use Rattle.knowing.specs.Good.{good}
-use Rattle.catalogue.specs.Shapes.{shapeAllows}
+use Rattle.catalogue.specs.Shapes.{shapeAllows, isEmpty, isNeeded}
 use Rattle.catalogue.specs.declared.Shape.{Shape}
 use Rattle.catalogue.specs.declared.Shape.the-variants.{Text, Number, Absent}
-use Rattle.rows.specs.Meaning.{Meaning, reading, mark, text, carried, shapeFor, kindFor, saidBy}
+use Rattle.rows.specs.Meaning.{Meaning, reading, mark, text, carried, withdrawn, withdrawnKind, shapeFor, valueAs, kindOf, kindFor, saidBy}
 use Rattle.rows.specs.declared.RowWords.{RowWords}
 use Rattle.rows.specs.declared.Content.{Content}
 use Rattle.rows.specs.declared.Content.the-variants as content
@@ -49,15 +49,31 @@ partGood room code part = eqb code 0 && leb (partPlace part + partLength part) r
 abbrev pub codeGood : ℕ → ℕ → ℕ → Bool
 codeGood tag width code = eqb tag 1 || ltb code (2 ^ (8 * width))
 
-abbrev pub contentGood : Shape → ℕ → RowWords → Bool
-contentGood (Number least most marked) room r =
+abbrev pub valueGood : Shape → ℕ → RowWords → Bool
+valueGood (Number least most marked) room r =
     shapeAllows (Number least most marked) (partLength (r .part)) && codeGood (r .tag) (partLength (r .part)) (r .code)
-contentGood Text room r = partGood room (r .code) (r .part)
-contentGood Absent room r = partGood room (r .code) (r .part)
+valueGood Text room r = partGood room (r .code) (r .part)
+valueGood Absent room r = partGood room (r .code) (r .part)
 
--- a row that is not bad, for a receiver and a buffer of so many bytes: its kind is the one that this receiver gives the tag and the code
+-- W-204: "for any known tag but 1, 2 and 65"; "The writer ignores a withdrawn row's place."; "a withdrawn row with a code or a length, or a text
+-- row of length 0, gets 17", since by its length another kind is its
+abbrev pub withdrawnGood : ℕ → ℕ → Bool
+withdrawnGood tag code = not (isNeeded tag) && eqb code 0
+
+abbrev pub withdrawnRowGood : RowWords → Bool
+withdrawnRowGood r = tagGood (r .tag) && (eqb (r .kind) withdrawnKind && withdrawnGood (r .tag) (r .code))
+
+abbrev pub contentGood : Shape → ℕ → RowWords → Bool
+contentGood shape room r = cond (isEmpty shape (partLength (r .part))) (withdrawnGood (r .tag) (r .code)) (valueGood shape room r)
+
+-- a row that is not bad, for a receiver and a buffer of so many bytes: its kind is the one that this receiver gives the tag, the code and the length
 unfoldable pub rowGood : Shape → ℕ → RowWords → Bool
-rowGood shape room r = tagGood (r .tag) && (eqb (r .kind) (kindFor shape (r .code)) && contentGood shape room r)
+rowGood shape room r = tagGood (r .tag) && (eqb (r .kind) (kindFor shape (r .code) (partLength (r .part))) && contentGood shape room r)
+
+-- the same of a row of some bytes, and of every row that is carried
+unfoldable pub valueRowGood : Shape → ℕ → RowWords → Bool
+valueRowGood shape room r =
+    tagGood (r .tag) && (eqb (r .kind) (kindOf (valueAs {A = Unit {0}} shape (r .code) (partLength (r .part)) tt)) && valueGood shape room r)
 
 -- the same of a receiver and a buffer
 abbrev pub GoodRow : (ℕ → Bool) → List ℕ → RowWords → Type 0
@@ -81,12 +97,13 @@ rowAt words n =
       part = getD words (4 * n + 3) 0;
     }
 
--- "its tag beside one of four kinds of content"; W-202: a reading has its length too, since the conversions are told it
+-- "its tag beside one of four kinds of content", five since W-204; W-202: a reading has its length too, since the conversions are told it
 abbrev pub contentOf : Meaning Part → Content
 contentOf (reading code size) = content.Reading code size
 contentOf (mark code size) = content.Mark
 contentOf (text part) = content.Text part
 contentOf (carried part) = content.Carried part
+contentOf withdrawn = content.Withdrawn
 
 abbrev pub rowTaken : Shape → ℕ → ℕ → RowWords → Answer Row
 rowTaken shape room n r =

@@ -10,9 +10,9 @@ ghost use mathlib.Core.Bool.{cond};
 ghost use Rattle.tagset.specs.Sets.{holds};
 ghost use Rattle.catalogue.specs.code.Column.{shapeIn};
 ghost use Rattle.catalogue.specs.declared.Shape.{Shape};
-ghost use Rattle.rows.specs.Meaning.{kindFor, markCode, saidBy};
-ghost use Rattle.rows.specs.Taken.{rowGood, contentGood, partGood, codeGood, countGood, tagShown, rowAt, partOf, contentOf, rowTaken};
-ghost use Rattle.rows.specs.Taken.{rowTakenAt, takenSaid};
+ghost use Rattle.rows.specs.Meaning.{kindOf, kindFor, valueAs, markCode, saidBy};
+ghost use Rattle.rows.specs.Taken.{rowGood, tagGood, withdrawnRowGood, valueRowGood, valueGood, partGood, codeGood, countGood, tagShown};
+ghost use Rattle.rows.specs.Taken.{rowAt, partOf, contentOf, rowTaken, rowTakenAt, takenSaid};
 use catalogue::Shape;
 use refusal::Reason;
 use refusal::Refusal;
@@ -26,10 +26,11 @@ pub struct RowWords {
     pub part: u64,
 }
 
-// A filled table: how many rows it has, and as two words the tags of those that are not carried.
+// A filled table: how many rows it has, and as two words each the tags of those that are not carried and of those that are withdrawn.
 pub struct Filled {
     pub count: usize,
     pub present: TagSet,
+    pub withdrawn: TagSet,
 }
 
 // Document 01's numbers of the kinds.
@@ -41,9 +42,20 @@ pub const TEXT: u64 = 3;
 
 pub const CARRIED: u64 = 4;
 
-// The kind of a value, by its shape and its code.
-pub fn kind_of(shape: Shape, code: u64) -> u64
-    ensures { λ r. ⌜ r ≡ kindFor shape code ⌝ }
+pub const WITHDRAWN: u64 = 5;
+
+// The kind of an item, by its shape, its code and how many bytes it has: W-204's is the first to be asked for.
+pub fn kind_of(shape: Shape, code: u64, size: usize) -> u64
+    ensures { λ r. ⌜ r ≡ kindFor shape code size ⌝ }
+{
+    if catalogue::is_empty(shape, size) {
+        return WITHDRAWN;
+    }
+    kind_of_value(shape, code)
+}
+
+fn kind_of_value(shape: Shape, code: u64) -> u64
+    ensures { λ r. ⌜ r ≡ kindOf (valueAs {A = Unit {0}} shape code 0 tt) ⌝ }
 {
     match shape {
         Shape::Text => TEXT,
@@ -86,23 +98,55 @@ pub fn shape_for(column: &[u8; 128], known: TagSet, tag: u64) -> Shape
     Shape::Absent
 }
 
-// Whether a row is not bad, for a shape and a buffer of so many bytes.
+// Whether a row is not bad, for a shape and a buffer of so many bytes: by its length it is withdrawn or has a value.
 pub fn is_good_row(shape: Shape, room: usize, row: RowWords) -> bool
     ensures { λ r. ⌜ r ≡ rowGood shape room row ⌝ }
 {
-    let tag = row.tag;
+    let length = (row.part % 65536) as usize;
+    if catalogue::is_empty(shape, length) {
+        return is_good_withdrawal(row);
+    }
+    is_good_value_row(shape, room, row)
+}
+
+fn is_good_tag(tag: u64) -> bool
+    ensures { λ r. ⌜ r ≡ tagGood tag ⌝ }
+{
     if 0 < tag {
-        if tag < 2097152 {
-            if row.kind == kind_of(shape, row.code) {
-                return is_good_content(shape, room, row);
+        return tag < 2097152;
+    }
+    false
+}
+
+// A withdrawn row: code 0, and no item that a packet needs; its place does not matter.
+fn is_good_withdrawal(row: RowWords) -> bool
+    ensures { λ r. ⌜ r ≡ withdrawnRowGood row ⌝ }
+{
+    if is_good_tag(row.tag) {
+        if row.kind == WITHDRAWN {
+            if catalogue::is_needed(row.tag) {
+                return false;
             }
+            return row.code == 0;
         }
     }
     false
 }
 
-fn is_good_content(shape: Shape, room: usize, row: RowWords) -> bool
-    ensures { λ r. ⌜ r ≡ contentGood shape room row ⌝ }
+// Whether a row of some bytes, or a carried one, is not bad.
+pub fn is_good_value_row(shape: Shape, room: usize, row: RowWords) -> bool
+    ensures { λ r. ⌜ r ≡ valueRowGood shape room row ⌝ }
+{
+    if is_good_tag(row.tag) {
+        if row.kind == kind_of_value(shape, row.code) {
+            return is_good_value(shape, room, row);
+        }
+    }
+    false
+}
+
+fn is_good_value(shape: Shape, room: usize, row: RowWords) -> bool
+    ensures { λ r. ⌜ r ≡ valueGood shape room row ⌝ }
 {
     match shape {
         Shape::Text => is_good_part(room, row.code, row.part),
@@ -152,12 +196,13 @@ pub struct Part {
     pub length: usize,
 }
 
-// What a row holds: a reading's code and length, a mark, or where text or carried bytes stand.
+// What a row holds: a reading's code and length, a mark, where text or carried bytes stand, or that the value no longer holds.
 pub enum Content {
     Reading { code: u64, length: usize },
     Mark,
     Text(Part),
     Carried(Part),
+    Withdrawn,
 }
 
 // A row taken out singly.
@@ -259,6 +304,9 @@ pub fn content_of(kind: u64, code: u64, part: Part) -> Content
     }
     if kind == TEXT {
         return Content::Text(part);
+    }
+    if kind == WITHDRAWN {
+        return Content::Withdrawn;
     }
     Content::Carried(part)
 }

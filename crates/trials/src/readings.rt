@@ -106,10 +106,6 @@ fn reading_of(tag: u64, code: u64, length: usize) {
     field(STDOUT_FILENO, length as u64);
 }
 
-fn mark_of(tag: u64) {
-    tagged(b"mark", tag);
-}
-
 fn parted(what: &[u8], tag: u64, part: Part) {
     tagged(what, tag);
     field(STDOUT_FILENO, part.place as u64);
@@ -119,9 +115,10 @@ fn parted(what: &[u8], tag: u64, part: Part) {
 fn held(tag: u64, content: Content) {
     match content {
         Content::Reading { code, length } => reading_of(tag, code, length),
-        Content::Mark => mark_of(tag),
+        Content::Mark => tagged(b"mark", tag),
         Content::Text(part) => parted(b"text", tag, part),
         Content::Carried(part) => parted(b"carried", tag, part),
+        Content::Withdrawn => tagged(b"withdrawn", tag),
     }
     newline();
 }

@@ -12,7 +12,7 @@ use mathlib.Core.List.{List, [], _∷_}
 use lib.Arith.{digits-div, digits-mod}
 use lib.ListN.{length, drop, length-drop}
 use lib.Seq.{length-take-le}
-use Rattle.base.proofs.Cases.{byBool, byLt, never}
+use Rattle.base.proofs.Cases.{byBool, byLt, byEq, never}
 use Rattle.base.specs.Every.{Each}
 use Rattle.base.proofs.Every.{both-right}
 use Rattle.base.proofs.Parts.{nil-at}
@@ -23,10 +23,12 @@ use Rattle.ber.specs.Read.{readTag}
 use Rattle.tagset.specs.Sets.{holds}
 use Rattle.tagset.specs.declared.TagSet.{TagSet}
 use Rattle.knowing.specs.Good.{good}
-use Rattle.catalogue.proofs.Columns.{number-ranged}
+use Rattle.catalogue.proofs.Columns.{number-ranged, right-some}
 use Rattle.catalogue.specs.declared.Shape.{Shape}
 use Rattle.catalogue.specs.declared.Shape.the-variants.{Text, Number, Absent}
-use Rattle.rows.specs.Meaning.{shapeFor, markCode, seenAs, meaningOf, kindOf, codeOf}
+use Rattle.catalogue.specs.Shapes.{isEmpty}
+use Rattle.rows.specs.Meaning.{shapeFor, valueAs, seenAs, meaningOf, kindOf, codeOf}
+use Rattle.rows.proofs.Laws.{kind-valued, code-valued}
 use Rattle.rows.specs.declared.RowWords.{RowWords}
 use Rattle.rows.specs.Taken.{partPlace, partLength, rowSays, contentOf}
 use Rattle.packet.specs.Pieces.{Item, pieces, walk, before, readItem}
@@ -38,7 +40,7 @@ use Rattle.packet.specs.declared.Header.{Header}
 use Rattle.packet.proofs.Walks.{walk-end, walk-full, walk-refused, walk-item, header-lies}
 use Rattle.packet.proofs.Accepting.{accepting}
 use Rattle.refusal.proofs.Answers.{passed}
-use Rattle.laws.proofs.Sent.{Lies, lies-bytes, bytes-back, SizedFor, number-allowed, accepted-lie, accepted-sized}
+use Rattle.laws.proofs.Sent.{Lies, lies-bytes, bytes-back, SizedFor, shape-sized, accepted-lie, accepted-sized}
 use Rattle.laws.proofs.Tables.{has-received}
 use Rattle.walker.specs.Steps.{headerValue, headerPart, seenIn, rowSeen, seenBy, partBy, nextBy, seenAt, partAt, nextAt, startPlace}
 use Rattle.walker.specs.declared.Standing.{Standing}
@@ -120,7 +122,9 @@ module _ (K : TagSet) (p : List ℕ) where
     fits : (least m : ℕ) (k : Bool) → shapeFor (holds K) (h .tag) ≡ Number least m k → valueOf (headerValue p h) < 2 ^ 64
     fits least m k e =
         let n : ℕ = length (headerValue p h) in
-        let size : n ≤ m = leb-true n m (both-right (leb least n) _ (number-allowed (holds K) (itemBy p h .piece) least m k s e)) in
+        let right = shape-sized (holds K) (itemBy p h .piece) (Number least m k) refl s e in
+        let size : n ≤ m = byEq n 0 (λ z. omega arith) (λ some.
+        leb-true n m (both-right (leb least n) _ (right-some (h .tag) n (Number least m k) right some))) in
         let few : m ≤ 8 = narrow least m k e in
         omega (
           arith,
@@ -135,19 +139,28 @@ module _ (K : TagSet) (p : List ℕ) where
     same-size = digits-mod (h .place) (l .short) ∙ long
 
     -- kind and code do not ask where the value stands
-    same-kind : (x : Shape) → shapeFor (holds K) (h .tag) ≡ x
-        → kindOf (seenAs x (valueOf (headerValue p h) % 2 ^ 64) (h .size) (headerPart h)) ≡ kindOf (meaningOf x (headerValue p h))
-    same-kind (Number least m k) e =
-        rw (mod-eq-of-lt (fits least m k e)) (byBool (k && eqb (valueOf (headerValue p h)) (markCode m)) (λ b. rw b) (λ b. rw b))
-    same-kind Text e = refl
-    same-kind Absent e = refl
+    kind-values : (x : Shape) → shapeFor (holds K) (h .tag) ≡ x
+        → kindOf (valueAs x (valueOf (headerValue p h) % 2 ^ 64) (h .size) (headerPart h))
+        ≡ kindOf (valueAs x (valueOf (headerValue p h)) (h .size) (headerValue p h))
+    kind-values (Number least m k) e =
+        rw (mod-eq-of-lt (fits least m k e)) (kind-valued (h .size) (headerPart h) (h .size) (headerValue p h) (Number least m k) _)
+    kind-values Text e = refl
+    kind-values Absent e = refl
 
-    same-code : (x : Shape) → shapeFor (holds K) (h .tag) ≡ x
-        → codeOf (seenAs x (valueOf (headerValue p h) % 2 ^ 64) (h .size) (headerPart h)) ≡ codeOf (meaningOf x (headerValue p h))
-    same-code (Number least m k) e =
-        rw (mod-eq-of-lt (fits least m k e)) (byBool (k && eqb (valueOf (headerValue p h)) (markCode m)) (λ b. rw b) (λ b. rw b))
-    same-code Text e = refl
-    same-code Absent e = refl
+    code-values : (x : Shape) → shapeFor (holds K) (h .tag) ≡ x
+        → codeOf (valueAs x (valueOf (headerValue p h) % 2 ^ 64) (h .size) (headerPart h))
+        ≡ codeOf (valueAs x (valueOf (headerValue p h)) (h .size) (headerValue p h))
+    code-values (Number least m k) e =
+        rw (mod-eq-of-lt (fits least m k e)) (code-valued (h .size) (headerPart h) least m k _ ∙ sym (code-valued (h .size) (headerValue p h) least m k _))
+    code-values Text e = refl
+    code-values Absent e = refl
+
+    module _ (x : Shape) (e : shapeFor (holds K) (h .tag) ≡ x) where
+      same-kind : kindOf (seenAs x (valueOf (headerValue p h) % 2 ^ 64) (h .size) (headerPart h)) ≡ kindOf (meaningOf x (headerValue p h))
+      same-kind = byBool (isEmpty x (h .size)) (λ z. rw (long, z)) (λ z. rw (long, z) (kind-values x e))
+
+      same-code : codeOf (seenAs x (valueOf (headerValue p h) % 2 ^ 64) (h .size) (headerPart h)) ≡ codeOf (meaningOf x (headerValue p h))
+      same-code = byBool (isEmpty x (h .size)) (λ z. rw (long, z)) (λ z. rw (long, z) (code-values x e))
 
     same-item : _≡_ {A = Handed} (record { item = seenIn K p h; value = headerValue p h }) (handedRow K p (rowOf (holds K) (itemBy p h)))
     unfolding seenIn rowOf

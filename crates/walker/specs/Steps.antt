@@ -46,11 +46,11 @@ seenIn K p h =
       next = h .place + h .size;
     }
 
--- the code by the shape and the value as a number, whatever the length
-abbrev pub codeFor : Shape → ℕ → ℕ
-codeFor shape code = codeOf (seenAs {A = Unit {0}} shape code 0 tt)
+-- the code by the shape, the value as a number and its length
+abbrev pub codeFor : Shape → ℕ → ℕ → ℕ
+codeFor shape code size = codeOf (seenAs {A = Unit {0}} shape code size tt)
 
--- "its tag beside one of four kinds of content"
+-- "its tag beside one of four kinds of content", five since W-204
 unfoldable pub rowSeen : Standing → Row
 rowSeen s = record { tag = s .tag; content = contentOf (saidBy (s .kind) (s .code) (s .length) (record { place = s .place; length = s .length })) }
 

@@ -131,9 +131,9 @@ fn shape_of(known: TagSet, tag: u64) -> Shape
     Shape::Absent
 }
 
-// The code of a number; a text or carried value is not looked into.
+// The code of a number, that of no bytes being 0; a text or carried value is not looked into.
 fn code_of(shape: Shape, value: &[u8]) -> u64
-    ensures { λ r. ⌜ r ≡ codeFor shape (valueOf (now (value .entry)) % 2 ^ 64) ⌝ }
+    ensures { λ r. ⌜ r ≡ codeFor shape (valueOf (now (value .entry)) % 2 ^ 64) (length (now (value .entry))) ⌝ }
 {
     match shape {
         Shape::Text => 0,
@@ -156,7 +156,7 @@ fn standing_in(packet: &[u8], known: TagSet, item: Header) -> Standing
     let code = code_of(shape, &packet[place..next]);
     Standing {
         tag: item.tag,
-        kind: rows::kind_of(shape, code),
+        kind: rows::kind_of(shape, code, item.size),
         code,
         place,
         length: item.size,

@@ -1,21 +1,23 @@
--- Document 01, Worked values: those with a star, as one list with W-202's and W-203's, and one test over the definitions that the contracts cite.
+-- Document 01, Worked values: those with a star, as one list with those of W-202 to W-204, and one test over the definitions that the contracts
+-- cite.
 use Prim.Native.Nat.{ℕ, _-_, _*_, _+_}
-use mathlib.Core.Bool.{Bool, true, false, _&&_}
+use mathlib.Core.Bool.{Bool, true, false, _&&_, Bool·beq}
 use mathlib.Core.List.{List, [], _∷_, _++_}
 use lib.ListN.{length, replicate}
 use lib.Dec.{eqb}
 use lib.IntN.{ℤ, pos, negsuc, negℤ}
 use Rattle.refusal.specs.Answer.{Answer, given, refused}
 use Rattle.ber.specs.Read.{Read, got, broken, readLength}
-use Rattle.tagset.specs.Sets.{knowing, same as sameSet}
+use Rattle.tagset.specs.Sets.{noTags, knowing, holds, same as sameSet}
 use Rattle.tagset.specs.declared.TagSet.{TagSet}
 use Rattle.catalogue.specs.Rows.{allTags}
 use Rattle.scale.specs.Conversions.{toHouse, toCode}
 use Rattle.scale.specs.declared.House.{House}
 use Rattle.scale.specs.declared.Code.{Code}
 use Rattle.packet.specs.Structure.{key, same}
-use Rattle.packet.specs.Rows.{words, readAnswer, readTable}
-use Rattle.rows.specs.Meaning.{readingKind}
+use Rattle.packet.specs.Rows.{shapeFor, words, readAnswer, readTable}
+use Rattle.rows.specs.Meaning.{readingKind, textKind, carriedKind, withdrawnKind}
+use Rattle.rows.specs.Taken.{rowGood}
 use Rattle.rows.specs.declared.RowWords.{RowWords}
 use Rattle.rows.specs.declared.Filled.{Filled}
 use Rattle.ground.specs.Ground.{CornerSeen, noCorner, offTheEarth, on, cornerIn}
@@ -52,7 +54,7 @@ abbrev pub sameCode : Code → Code → Bool
 sameCode c d = eqb (c .code) (d .code)
 
 abbrev pub sameFilled : Filled → Filled → Bool
-sameFilled f g = eqb (f .count) (g .count) && sameSet (f .present) (g .present)
+sameFilled f g = eqb (f .count) (g .count) && (sameSet (f .present) (g .present) && sameSet (f .withdrawn) (g .withdrawn))
 
 abbrev pub sameCorner : CornerSeen → CornerSeen → Bool
 sameCorner noCorner noCorner = true
@@ -77,6 +79,10 @@ tableWith rows = words rows ++ (replicate (512 - 4 * length rows) 0 ++ (7 ∷ []
 abbrev pub numberRow : ℕ → ℕ → ℕ → ℕ → RowWords
 numberRow place size tag code = record { tag = tag; kind = readingKind; code = code; part = place * 65536 + size }
 
+-- a withdrawn item's row, by the place at which its value would stand
+abbrev pub withdrawnRow : ℕ → ℕ → RowWords
+withdrawnRow place tag = record { tag = tag; kind = withdrawnKind; code = 0; part = place * 65536 }
+
 -- the rows of corner 1: frame centre and offset, latitude before longitude; and the full ones
 abbrev pub byOffset : ℕ → ℕ → ℕ → ℕ → List RowWords
 byOffset north east up right = numberRow 0 4 23 north ∷ numberRow 0 4 24 east ∷ numberRow 0 2 26 up ∷ numberRow 0 2 27 right ∷ []
@@ -90,8 +96,12 @@ pub data Case : Type 0 where
   -- a tag, a length, a code and its value in house units; a tag, a length, a value and its code
   houseCase : ℕ → ℕ → ℕ → Answer House → Case
   codeCase : ℕ → ℕ → ℤ → Answer Code → Case
-  -- a packet, the rows that a receiver of the whole catalogue reads, and the two words beside them
-  packetCase : List ℕ → List RowWords → TagSet → Case
+  -- a packet, the rows that a receiver of the whole catalogue reads, and the words beside them: of what is there, and of what is withdrawn
+  packetCase : List ℕ → List RowWords → TagSet → TagSet → Case
+  -- a packet that it refuses: number, place and tag
+  refusedCase : List ℕ → ℕ → ℕ → ℕ → Case
+  -- a row, whether its writer takes it, with no bytes in the buffer
+  rowCase : RowWords → Bool → Case
   -- rows, and the corner 1 that they give
   cornerCase : List RowWords → CornerSeen → Case
 
@@ -99,9 +109,11 @@ abbrev pub right : Case → Bool
 right (lengthCase bytes found) = sameRead (readLength bytes) found
 right (houseCase tag n code answer) = sameAnswer sameHouse (toHouse tag n code) answer
 right (codeCase tag n value answer) = sameAnswer sameCode (toCode tag n value) answer
-right (packetCase packet rows present) =
-    sameAnswer sameFilled (readAnswer allTags packet lent) (given (record { count = length rows; present = present }))
+right (packetCase packet rows present withdrawn) =
+    sameAnswer sameFilled (readAnswer allTags packet lent) (given (record { count = length rows; present = present; withdrawn = withdrawn }))
     && same (readTable allTags packet lent) (tableWith rows)
+right (refusedCase packet number place tag) = sameAnswer sameFilled (readAnswer allTags packet lent) (refused number place tag)
+right (rowCase row good) = Bool·beq (rowGood (shapeFor (holds allTags) (row .tag)) 0 row) good
 right (cornerCase rows corner) = sameCorner (cornerIn 1 rows) corner
 
 -- "The packet key, 11, 02 08 00 00 00 00 00 00 00 01, 41 01 11, 01 02 62 A6 is accepted."
@@ -111,6 +123,23 @@ packet =
     ++ (0x11 ∷ 0x02 ∷ 0x08 ∷ 0x00 ∷ 0x00 ∷ 0x00 ∷ 0x00 ∷ 0x00 ∷ 0x00 ∷ 0x00 ∷ 0x01
     ∷ 0x41 ∷ 0x01 ∷ 0x11
     ∷ 0x01 ∷ 0x02 ∷ 0x62 ∷ 0xA6 ∷ [])
+
+-- the same with items 3 and 104 withdrawn (W-204), and one whose version is
+unfoldable pub fleet : List ℕ
+fleet =
+    key
+    ++ (0x15 ∷ 0x02 ∷ 0x08 ∷ 0x00 ∷ 0x00 ∷ 0x00 ∷ 0x00 ∷ 0x00 ∷ 0x00 ∷ 0x00 ∷ 0x01
+    ∷ 0x41 ∷ 0x01 ∷ 0x11
+    ∷ 0x03 ∷ 0x00
+    ∷ 0x68 ∷ 0x00
+    ∷ 0x01 ∷ 0x02 ∷ 0xD1 ∷ 0xA6 ∷ [])
+
+unfoldable pub versionless : List ℕ
+versionless =
+    key
+    ++ (0x10 ∷ 0x02 ∷ 0x08 ∷ 0x00 ∷ 0x00 ∷ 0x00 ∷ 0x00 ∷ 0x00 ∷ 0x00 ∷ 0x00 ∷ 0x01
+    ∷ 0x41 ∷ 0x00
+    ∷ 0x01 ∷ 0x02 ∷ 0x61 ∷ 0x94 ∷ [])
 
 -- "Lengths: 7F and 81 7F are 127; 80 and 85 are refused": these two with bytes enough after them
 unfoldable pub values : List Case
@@ -153,7 +182,7 @@ values =
     -- "ignored at other tags"
     ∷ houseCase 15 5 0xFFFF (house (pos 19000000))
     -- the packet: place, length, tag and code of its rows; 2 and 1 are bits of the low word, 65 is bit 1 of the high one
-    ∷ packetCase packet (numberRow 19 8 2 1 ∷ numberRow 29 1 65 17 ∷ numberRow 32 2 1 25254 ∷ []) (knowing 6 2)
+    ∷ packetCase packet (numberRow 19 8 2 1 ∷ numberRow 29 1 65 17 ∷ numberRow 32 2 1 25254 ∷ []) (knowing 6 2) noTags
     -- W-203: the island's "corner at 180.03 degrees", and as far below -180
     ∷ cornerCase (byOffset 0 0x7FFEA279 0 0x4000) (on (pos 0) (negℤ (pos 1799699989)))
     ∷ cornerCase (byOffset 0 0x80015D87 0 0xC000) (on (pos 0) (pos 1799699989))
@@ -167,6 +196,24 @@ values =
     ∷ cornerCase (byOffset 0x7FFFFFCA 0 0x0001 0) offTheEarth
     ∷ cornerCase (byOffset 0x80000037 0 0xFFFF 0) (on (negℤ (pos 900000000)) (pos 0))
     ∷ cornerCase (byOffset 0x80000036 0 0xFFFF 0) offTheEarth
+    -- W-204: "with code 0 and length 0"; 3 is a bit of the low word, 104 bit 40 of the high one
+    ∷ packetCase fleet
+    (numberRow 19 8 2 1 ∷ numberRow 29 1 65 17 ∷ withdrawnRow 32 3 ∷ withdrawnRow 34 104 ∷ numberRow 36 2 1 53670 ∷ [])
+    (knowing 14 0x10000000002) (knowing 8 0x10000000000)
+    -- "12 no longer for length zero, except at 1, 2 and 65"
+    ∷ refusedCase versionless 12 27 65
+    -- "The writer ignores a withdrawn row's place."; "a withdrawn row with a code or a length, or a text row of length 0, gets 17"
+    ∷ rowCase (withdrawnRow 0xFFFFFFFFFFFF 104) true
+    ∷ rowCase (withdrawnRow 0 65) false
+    ∷ rowCase (record { tag = 104; kind = withdrawnKind; code = 1; part = 0 }) false
+    ∷ rowCase (record { tag = 104; kind = withdrawnKind; code = 0; part = 2 }) false
+    ∷ rowCase (record { tag = 3; kind = textKind; code = 0; part = 0 }) false
+    -- a tag that is not known: "carries an empty value"
+    ∷ rowCase (withdrawnRow 0 94) false
+    ∷ rowCase (record { tag = 94; kind = carriedKind; code = 0; part = 0 }) true
+    -- "Heights and corners treat a withdrawn row as absent."
+    ∷ cornerCase (withdrawnRow 0 82 ∷ withdrawnRow 0 83 ∷ byOffset 0 0 0x0001 0x0001) (on (pos 23) (pos 23))
+    ∷ cornerCase (withdrawnRow 0 26 ∷ full 0 0x7FFFFFFE) (on (pos 0) (pos 1799999999))
     -- a row used that is not there comes before
     ∷ cornerCase (numberRow 0 4 23 0x7FFFFFFF ∷ numberRow 0 4 24 0 ∷ numberRow 0 2 26 0x7FFF ∷ []) noCorner
     ∷ []

@@ -28,9 +28,9 @@ fn put_number(out: &mut [u8], at: usize, size: usize, x: u64)
     number::put(&mut out[at..end], x);
 }
 
-// A part of the buffer, at a place of the output.
+// A part of the buffer, at a place of the output; the place of no bytes does not matter.
 fn copy(out: &mut [u8], at: usize, buffer: &[u8], place: usize, size: usize)
-    requires { ⌜ (at + size ≤ length (now out)) × (place + size ≤ length (now buffer)) ⌝ }
+    requires { ⌜ (at + size ≤ length (now out)) × (0 < size → place + size ≤ length (now buffer)) ⌝ }
     ensures { λ _. ⌜ Wrote (now (out .entry)) at (take size (drop place (now (buffer .entry)))) (at + size) (now (out .exit)) ⌝ }
 {
     let mut i = 0;

@@ -154,12 +154,14 @@ fn damage_row(row: &mut [u64], dice: &mut Dice) {
     let bits = [0, 1, 3, 7, 8, 15, 16, 31, 32, 63];
     let lengths = [0, 1, 2, 3, 4, 5, 127, 128, 255, 256, 8_000];
     let (place, length) = (row[3] >> 16, row[3] & 0xFFFF);
-    match dice.throw(6) {
+    match dice.throw(8) {
         0 => row[0] = tags[dice.throw(11)],
-        1 => row[1] = dice.throw(6) as u64,
+        1 => row[1] = dice.throw(7) as u64,
         2 => row[1..3].copy_from_slice(&[1 + dice.throw(2) as u64, 1 << bits[dice.throw(10)]]),
         3 => row[3] = place << 16 | lengths[dice.throw(11)],
         4 => row[3] = (dice.throw(9_000) as u64) << 16 | length,
+        5 => row[1] = 5,
+        6 => row[1..].copy_from_slice(&[5, 0, (dice.throw(9_000) as u64) << 16]),
         _ => row[dice.throw(4)] ^= bit,
     }
 }

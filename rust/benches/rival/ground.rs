@@ -10,7 +10,7 @@ pub enum Corner {
     Missing,
 }
 
-/// The values of an accepted packet: the place of each by its tag, 0 where there is none.
+/// The values of an accepted packet: the place of each by its tag, 0 where there is none or where it is withdrawn.
 struct Values<'a> {
     packet: &'a [u8],
     knowing: [u64; 2],
@@ -80,7 +80,8 @@ pub fn corner(packet: &[u8], low: u64, high: u64, k: u64) -> Result<Corner, Refu
         places: [0; 128],
     };
     walk(packet, low, high, |_, item| {
-        if let Some(place) = values.places.get_mut(item.tag as usize) {
+        let place = values.places.get_mut(item.tag as usize);
+        if let Some(place) = place.filter(|_| item.length > 0) {
             *place = item.place as u16;
         }
     })?;

@@ -1,8 +1,9 @@
 //! The rival's writer: one pass that judges the rows and sums their sizes, one that writes.
 
 use super::{
-    catalogue, checksum, good, length_bytes, put, put_length, refusal, Refusal, Rule, CARRIED,
-    CATALOGUE, EXTENDED, HIGHEST, KEY, LONGEST_PACKET, MOST_ITEMS, NUMBER, NUMBER_OR_MARK, TEXT,
+    catalogue, checksum, good, length_bytes, may_be_withdrawn, put, put_length, refusal, Refusal,
+    Rule, CARRIED, CATALOGUE, EXTENDED, HIGHEST, KEY, LONGEST_PACKET, MOST_ITEMS, NUMBER,
+    NUMBER_OR_MARK, TEXT, WITHDRAWN,
 };
 
 const LARGEST_TAG: u64 = 0x1F_FFFF;
@@ -37,6 +38,11 @@ impl Row {
     #[inline(always)]
     fn is_part(&self, kind: u8, buffer: usize) -> bool {
         self.kind == kind.into() && self.code == 0 && self.place + self.length <= buffer
+    }
+
+    /// A withdrawn row that is not bad. The place is never a reason.
+    fn is_withdrawn(&self) -> bool {
+        self.code == 0 && self.length == 0 && may_be_withdrawn(self.tag)
     }
 
     /// A number's row that is not bad. The code of tag 1 is never a reason.
@@ -155,7 +161,8 @@ impl Judge {
                 self.fault.get_or_insert(refusal(number, n, row.tag));
             }
             match rule.form {
-                TEXT => row.is_part(TEXT, buffer),
+                _ if row.kind == WITHDRAWN.into() => row.is_withdrawn(),
+                TEXT => row.is_part(TEXT, buffer) && row.length > 0,
                 _ => row.is_number(rule),
             }
         } else {
@@ -168,8 +175,11 @@ impl Judge {
     }
 }
 
-/// What is wrong with a known row that is not bad.
+/// What is wrong with a known row that is not bad. A withdrawn one can only be a second one.
 fn fault(row: Row, rule: Rule, is_fresh: bool) -> Option<u64> {
+    if row.kind == WITHDRAWN.into() {
+        return (!is_fresh).then_some(13);
+    }
     if row.length.wrapping_sub(rule.least.into()) > rule.span.into() {
         Some(12)
     } else if !is_fresh {
@@ -258,6 +268,9 @@ fn put_item(out: &mut [u8], at: usize, words: &[u64], buffer: &[u8]) -> usize {
         let after_tag = put_tag(out, at, row.tag);
         put_length(out, after_tag, row.length)
     };
+    if row.kind == WITHDRAWN.into() {
+        return place;
+    }
     let number = row.code.to_be_bytes();
     let value = if row.kind <= NUMBER_OR_MARK.into() {
         &number[8 - row.length..]

@@ -82,6 +82,7 @@ fn item_line(row: Row) -> [String; 4] {
         Content::Mark => ("mark", mark(row.tag).to_string()),
         Content::Text(bytes) => ("text", printable(bytes)),
         Content::Carried(bytes) => ("carried", first_bytes(bytes)),
+        Content::Withdrawn => ("withdrawn", "-".to_string()),
     };
     let tag = row.tag.to_string();
     [tag, name.to_string(), kind.to_string(), value]

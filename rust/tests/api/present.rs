@@ -29,11 +29,20 @@ fn what_is_asked_of_the_words_is_what_a_scan_finds() {
             let present = rows.present();
             assert_eq!(present, present_of(&packet, knowing));
             let known = |row: &Row| !matches!(row.content, Content::Carried(_));
+            let withdrawn = |row: &Row| row.content == Content::Withdrawn;
             for tag in (0..=300).chain(FAR) {
-                let found = rows.iter().any(|row| row.tag == tag && known(&row));
-                assert_eq!(present.has(tag), found, "tag {tag}");
+                let found = |is_one: &dyn Fn(&Row) -> bool| {
+                    let mut of_tag = rows.iter().filter(|row| row.tag == tag);
+                    of_tag.any(|row| is_one(&row))
+                };
+                assert_eq!(present.has(tag), found(&known), "tag {tag}");
+                assert_eq!(rows.withdrawn().has(tag), found(&withdrawn), "tag {tag}");
+                let has_value = found(&|row| known(row) && !withdrawn(row));
+                assert_eq!(rows.has_value(tag), has_value, "tag {tag}");
             }
             assert_eq!(present.count(), rows.iter().filter(known).count());
+            let count = rows.iter().filter(withdrawn).count();
+            assert_eq!(rows.withdrawn().count(), count);
         }
     }
 }
@@ -206,6 +215,32 @@ fn a_known_tag_that_stands_twice_sets_its_bit_once() {
     assert_eq!(refused_with(&rows, flipped(right, 24)), (22, 0, 0));
 }
 
+/// A withdrawn row is not carried: heights and corners treat it as absent, and the words do not.
+#[test]
+fn a_withdrawn_row_sets_its_bit() {
+    let withdrawn = [24, 5, 0, 0];
+    let rows = [TIME, VERSION_17, CENTRE, withdrawn, SUM];
+    let right = words_with(&[1, 2, 23, 24, 65]);
+    for bit in [23, 24, 25] {
+        assert_eq!(refused_with(&rows, flipped(right, bit)), (22, 0, 0));
+    }
+    let mut out = [0; LONGEST_PACKET];
+    let words = rows.as_flattened();
+    let size = write_with(words, rows.len(), &[], Knowing::ALL, right, &mut out).unwrap();
+    let accepted = check(&out[..size], Knowing::ALL).unwrap();
+    assert_eq!(
+        (accepted.present, accepted.withdrawn),
+        (right, words_with(&[24]))
+    );
+    assert!(accepted.has_value(23) && !accepted.has_value(24));
+    // Read and withdrawn of one tag are twice one tag.
+    let twice = [TIME, VERSION_17, CENTRE, [23, 5, 0, 0], SUM];
+    assert_eq!(
+        refused_with(&twice, words_with(&[1, 2, 23, 65])),
+        (13, 3, 23)
+    );
+}
+
 #[test]
 fn what_comes_before_22() {
     let none = Present::default();
@@ -232,7 +267,7 @@ fn what_comes_after_22() {
         (&[VERSION_17, TIME, SUM], &[1, 2, 65], (9, 0, 65)),
         (&[TIME, VERSION_17], &[2, 65], (10, 1, 65)),
         (
-            &[TIME, VERSION_17, [3, 3, 0, 0], SUM],
+            &[TIME, VERSION_17, [3, 3, 0, 128], SUM],
             &[1, 2, 3, 65],
             (12, 2, 3),
         ),

@@ -2,11 +2,11 @@
 
 use std::fmt::Debug;
 
-use oysterknoll::{catalogue, Knowing, Present, Refusal};
+use oysterknoll::{catalogue, Accepted, Knowing, Present, Refusal};
 
 use crate::lent::Lent;
 use crate::same::{corner, height, item, row_of, same_row, same_rows, same_walk};
-use crate::twin::{refused, Refused, Twin};
+use crate::twin::{refused, Refused, Row, Twin};
 use crate::twin_records::Record;
 use crate::twin_write::Rows;
 use crate::wire::MOST_ITEMS;
@@ -87,9 +87,12 @@ impl Comparer {
 
     pub fn check(&mut self, packet: &[u8], set: u128) -> Verdict {
         let rows = self.twin.read(packet, set, None);
-        let twin = rows.map(|rows| (rows.len(), self.twin.words_of(&rows)));
+        let twin = rows.map(|rows| self.accepted(&rows));
         let product = oysterknoll::check(packet, knowing(set));
-        let product = product.map(|accepted| (accepted.count, words(accepted.present)));
+        let product = product.map(|accepted| {
+            let words = [accepted.present, accepted.withdrawn].map(words);
+            (accepted.count, words)
+        });
         self.agree(Asked::of("check", packet, set), product, twin, true)
     }
 
@@ -103,15 +106,26 @@ impl Comparer {
         let rows = self.twin.read(packet, set, None);
         let product = oysterknoll::check(packet, knowing(set));
         let differs = match (&product, &rows) {
-            (Ok(product), Ok(rows)) => {
-                tags.find(|&tag| product.present.has(tag) != self.twin.is_there(rows, tag))
-            }
+            (Ok(product), Ok(rows)) => tags.find(|&tag| !self.same_of_tag(product, rows, tag)),
             _ => None,
         };
         let (product, twin) = (product.map(|_| ()), rows.map(|_| ()));
         let numbers = [differs.unwrap_or(0) as usize];
         let asked = Asked::of("present", packet, set).with(&numbers);
         self.agree(asked, product, twin, differs.is_none())
+    }
+
+    /// How many rows there are, the words for those that are there, and the words for those that are withdrawn.
+    fn accepted(&self, rows: &[Row]) -> (usize, [u128; 2]) {
+        let words = [self.twin.words_of(rows), self.twin.withdrawn_of(rows)];
+        (rows.len(), words)
+    }
+
+    /// Whether a tag is there, is withdrawn and has a value in the product's words as in a scan of the rows.
+    fn same_of_tag(&self, product: &Accepted, rows: &[Row], tag: u64) -> bool {
+        product.present.has(tag) == self.twin.is_there(rows, tag)
+            && product.withdrawn.has(tag) == self.twin.is_withdrawn(rows, tag)
+            && product.has_value(tag) == self.twin.has_value(rows, tag)
     }
 
     /// Any two words asked for a tag.
@@ -131,13 +145,14 @@ impl Comparer {
             (Ok(product), Ok(rows)) => same_rows(product, rows, packet),
             _ => true,
         };
-        let product = product.map(|rows| (rows.len(), words(rows.present())));
+        let product =
+            product.map(|rows| (rows.len(), [rows.present(), rows.withdrawn()].map(words)));
         self.words.clear();
         if let Ok(rows) = &rows {
             self.twin.put_table(rows, &mut self.words);
         }
         let memory_is_right = self.table.holds_only(&self.words);
-        let twin = rows.map(|rows| (rows.len(), self.twin.words_of(&rows)));
+        let twin = rows.map(|rows| self.accepted(&rows));
         self.agree(
             asked.with(&[table_words]),
             product,

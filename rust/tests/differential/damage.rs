@@ -54,6 +54,10 @@ impl Maker {
             2 => {
                 let mut doubled = self.parts[n];
                 doubled.place = self.random.below(self.store.len() - doubled.length);
+                // A tag stands once also where one of the two is withdrawn.
+                if self.random.one_in(3) {
+                    doubled.length = 0;
+                }
                 self.parts.insert(to, doubled);
             }
             3 => {

@@ -5,7 +5,7 @@ use oysterknoll::{Refusal, LONGEST_PACKET, TABLE_WORDS};
 use crate::bench::Bench;
 use crate::catalogue::knows;
 use crate::compare::{holds, knowing, Verdict};
-use crate::twin::{Row, CARRIED};
+use crate::twin::{Row, CARRIED, TEXT};
 
 /// What the product read: the rows' words beside the packet they point into.
 struct Read<'a> {
@@ -44,12 +44,12 @@ impl Read<'_> {
             && self.value(one) == other.value(two)
     }
 
-    /// A text or carried row's bytes; a number's place is nobody's business.
+    /// A text or carried row's bytes; the place of a number or of what is withdrawn is nobody's business.
     fn value(&self, row: &Row) -> &[u8] {
-        if row.kind < 3 {
-            return &[];
+        match row.kind {
+            TEXT | CARRIED => &self.buffer[row.place..row.place + row.length],
+            _ => &[],
         }
-        &self.buffer[row.place..row.place + row.length]
     }
 }
 

@@ -112,25 +112,26 @@ fn no_length_matters_at_another_tag() {
 }
 
 /// The receivers of a tag: the whole catalogue, one that does not know it, and the smallest set.
-fn receivers(tag: u64) -> [u128; 3] {
+pub fn receivers(tag: u64) -> [u128; 3] {
     [ALL, ALL & !(1 << tag), SMALLEST]
 }
 
 /// The worked packet with one item more.
-fn with_item(tag: u64, value: &[u8]) -> Items {
+pub fn with_item(tag: u64, value: &[u8]) -> Items {
     let mut items = worked_items();
     items.push((tag, value.to_vec()));
     items
 }
 
 /// Every function that is given a packet.
-fn packet_agrees(comparer: &mut Comparer, packet: &[u8], set: u128) -> Verdict {
+pub fn packet_agrees(comparer: &mut Comparer, packet: &[u8], set: u128) -> Verdict {
     comparer.check(packet, set)?;
     comparer.read(packet, set, 512)?;
     comparer.items(packet, set)?;
     comparer.asked(packet, set, 0..=300)?;
     comparer.forward(packet, set, |needed| needed)?;
     comparer.heights(packet, set)?;
+    (1..=4).try_for_each(|k| comparer.corner(packet, set, k))?;
     comparer.list(packet, |needed| needed)
 }
 
@@ -159,17 +160,18 @@ fn packets_with_extended_heights_of_every_length() {
     assert!(twelve > 0 && fourteen > 0);
 }
 
-/// What the reader refuses an extended height by, 0 if it does not.
+/// What the reader refuses an extended height by, 0 if it does not. One of no bytes is withdrawn.
 fn refusal_of(value: &[u8]) -> u64 {
     match value.len() {
+        0 => 0,
         length @ 2..=4 if number(value) <= 0x4FE2_0000 >> (8 * (4 - length)) => 0,
         2..=4 => 14,
         _ => 12,
     }
 }
 
-/// Every function that is given rows, all of these words being lent; the row of the height is the third.
-fn rows_agree(comparer: &mut Comparer, rows: &[[u64; 4]], set: u128) -> Verdict {
+/// Every function that is given rows, all of these words being lent; the third row is taken out.
+pub fn rows_agree(comparer: &mut Comparer, rows: &[[u64; 4]], set: u128) -> Verdict {
     let lent = Rows {
         words: rows.as_flattened(),
         count: rows.len(),
@@ -180,7 +182,8 @@ fn rows_agree(comparer: &mut Comparer, rows: &[[u64; 4]], set: u128) -> Verdict 
     comparer.take_row(lent, 2)?;
     comparer.write(lent, |needed| needed)?;
     comparer.write_with(lent, right, |needed| needed)?;
-    comparer.write_with(lent, right ^ 1 << 104, |needed| needed)
+    let wrong = right ^ 1 << (rows[2][0] % 128);
+    comparer.write_with(lent, wrong, |needed| needed)
 }
 
 /// Rows of 0 to 8 bytes and of far more, with right codes, codes beyond 40,000 m and codes too wide, in every kind.
@@ -194,7 +197,7 @@ fn tables_with_extended_heights_of_every_length() {
                 u64::MAX,
             ];
             for code in codes(length.min(8)).into_iter().chain(wide) {
-                for kind in 0..=5 {
+                for kind in 0..=6 {
                     let height = [tag, kind, code, length as u64];
                     let rows = [[2, 1, 1, 8], [65, 1, 17, 1], height, [1, 1, 0, 2]];
                     for set in receivers(tag) {

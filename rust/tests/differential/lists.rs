@@ -2,7 +2,7 @@
 
 use crate::catalogue::{form, Form};
 use crate::make::Maker;
-use crate::twin::{Row, Twin, CARRIED, MARK, READING, TEXT};
+use crate::twin::{Row, Twin, CARRIED, MARK, READING, TEXT, WITHDRAWN};
 use crate::twin_records::Record;
 
 /// A record whose value stands in memory of its own.
@@ -86,6 +86,10 @@ impl Maker {
             4 | 5 => {
                 let mut doubled = list.records[n].clone();
                 self.change_content(&mut doubled);
+                // A tag stands once also where one of the two is withdrawn.
+                if self.random.one_in(3) {
+                    doubled.kind = WITHDRAWN;
+                }
                 list.records.insert(to, doubled);
             }
             6 => list.records.insert(to, list.records[n].clone()),
@@ -107,7 +111,8 @@ impl Maker {
 
     /// Another kind than the receiver gives the tag, with all that any kind has.
     fn change_kind(&mut self, record: &mut Made) {
-        record.kind = self.random.pick(&[READING, MARK, TEXT, CARRIED]);
+        let kinds = [READING, MARK, TEXT, CARRIED, WITHDRAWN, WITHDRAWN];
+        record.kind = self.random.pick(&kinds);
         record.code = self.random.below(4) as u64;
         record.length = self.random.below(9);
         let length = self.random.below(9);

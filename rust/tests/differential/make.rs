@@ -51,7 +51,8 @@ impl Maker {
         }
     }
 
-    /// A packet that is good for a receiver of its tags, save where 34 or 63 has another code or an extended height is wrong.
+    /// A packet that is good for a receiver of its tags, save where 34 or 63 has another code or an extended height is wrong. Some items are
+    /// withdrawn.
     pub fn good_packet(&mut self, packet: &mut Vec<u8>) {
         self.make_parts();
         self.encode_parts();
@@ -187,8 +188,11 @@ impl Maker {
         }
     }
 
-    /// An item of this tag with a value as the catalogue would have it.
+    /// An item of this tag with a value as the catalogue would have it, or withdrawn.
     pub fn add(&mut self, tag: u64) {
+        if self.is_withdrawn(tag) {
+            return self.push(tag, 0);
+        }
         match form(tag) {
             Some(Form::Plain { bytes: 1, last }) if !self.random.one_in(16) => {
                 let code = self.random.below(last as usize + 1) as u8;

@@ -1,6 +1,7 @@
-//! Which items are there: the words that a writer is handed, and W-201's laws stated on the product's own answers.
+//! Which items are there, and which of them are withdrawn: the words that a writer is handed, and the laws of W-201 and W-204 on the two
+//! pairs of words, stated on the product's own answers.
 
-use oysterknoll::{Content, Refusal, LONGEST_PACKET, TABLE_WORDS};
+use oysterknoll::{Content, Present, Refusal, LONGEST_PACKET, TABLE_WORDS};
 
 use crate::bench::Bench;
 use crate::compare::{holds, knowing, present, words, Tally, Verdict};
@@ -36,13 +37,14 @@ fn tags_of(rows: &[Row]) -> u128 {
     tags.fold(0, |bits, row| bits | 1 << row.tag)
 }
 
-/// The words that the product answers of a packet.
-fn words_of(packet: &[u8], set: u128) -> Result<u128, Refusal> {
+/// The words that the product answers of a packet, for what is there and for what is withdrawn.
+pub fn words_of(packet: &[u8], set: u128) -> Result<[u128; 2], Refusal> {
     let checked = oysterknoll::check(packet, knowing(set));
-    checked.map(|accepted| words(accepted.present))
+    checked.map(|accepted| [accepted.present, accepted.withdrawn].map(words))
 }
 
-/// Whether check and read answer the same words, with a bit for each row that is not carried and for no other.
+/// Whether check and read answer the same words: with a bit for each row that is not carried and for no other, and with one for each row
+/// that is withdrawn and for no other.
 fn words_are_the_rows(packet: &[u8], set: u128) -> bool {
     let mut table = vec![0; TABLE_WORDS];
     let read = oysterknoll::read(packet, knowing(set), &mut table);
@@ -52,17 +54,27 @@ fn words_are_the_rows(packet: &[u8], set: u128) -> bool {
         _ => return false,
     };
     let known = |row: &oysterknoll::Row| !matches!(row.content, Content::Carried(_));
-    let mut tags: Vec<u64> = rows.iter().filter(known).map(|row| row.tag).collect();
+    let withdrawn = |row: &oysterknoll::Row| row.content == Content::Withdrawn;
+    checked == [rows.present(), rows.withdrawn()].map(words)
+        && are_the_tags_of(rows.present(), rows.iter().filter(known))
+        && are_the_tags_of(rows.withdrawn(), rows.iter().filter(withdrawn))
+        && rows.iter().all(|row| {
+            let has_value = known(&row) && !withdrawn(&row);
+            rows.has_value(row.tag) == has_value
+        })
+}
+
+/// Whether the words have a bit for each of these rows and for no other.
+fn are_the_tags_of<'a>(words: Present, rows: impl Iterator<Item = oysterknoll::Row<'a>>) -> bool {
+    let mut tags: Vec<u64> = rows.map(|row| row.tag).collect();
     tags.sort_unstable();
-    let there = rows.present();
-    there == present(checked)
-        && there.count() == tags.len()
-        && there.tags().eq(tags.iter().copied())
-        && there.tags().rev().eq(tags.into_iter().rev())
+    words.count() == tags.len()
+        && words.tags().eq(tags.iter().copied())
+        && words.tags().rev().eq(tags.into_iter().rev())
 }
 
 /// Counts what came of a case.
-fn count<T>(tally: &mut Tally, answer: &Result<T, Refusal>) {
+pub fn count<T>(tally: &mut Tally, answer: &Result<T, Refusal>) {
     tally.cases += 1;
     match answer {
         Ok(_) => tally.accepted += 1,
@@ -86,7 +98,8 @@ pub fn words_of_two_receivers(bench: &mut Bench) -> Verdict {
     let Ok(full) = by_fuller else {
         return Ok(());
     };
-    let same = words_of(packet, poorer) == Ok(full & poorer);
+    let within = full.map(|words| words & poorer);
+    let same = words_of(packet, poorer) == Ok(within);
     holds(same, || told("the poorer's words are others"))
 }
 
@@ -135,7 +148,8 @@ pub fn words_of_what_is_written(bench: &mut Bench) -> Verdict {
         return Ok(());
     };
     let known = lent.rows().iter().filter(|row| row.kind != CARRIED).count();
-    let read_back = words_of(&out[..length], set) == Ok(right);
+    let withdrawn = Twin::TRUE.withdrawn_of(&lent.rows());
+    let read_back = words_of(&out[..length], set) == Ok([right, withdrawn]);
     holds(read_back && right.count_ones() as usize == known, || {
         told("it does not read back with its words")
     })

@@ -4,7 +4,7 @@ use oysterknoll::catalogue::{Item, Stored, Unit};
 use oysterknoll::{Content, Corner, Height, Items};
 
 use crate::catalogue;
-use crate::twin::{Row, CARRIED, MARK, READING, TEXT};
+use crate::twin::{Row, CARRIED, MARK, READING, TEXT, WITHDRAWN};
 use crate::twin_answers::{TwinCorner, TwinHeight, TwinItem};
 use crate::twin_records::Record;
 
@@ -61,6 +61,7 @@ pub fn row_of<'a>(record: &Record<'a>) -> oysterknoll::Row<'a> {
         },
         MARK => Content::Mark,
         TEXT => Content::Text(record.value),
+        WITHDRAWN => Content::Withdrawn,
         _ => Content::Carried(record.value),
     };
     oysterknoll::Row {
@@ -98,6 +99,7 @@ pub fn same_row(product: &oysterknoll::Row, row: &Row, buffer: &[u8]) -> bool {
         Content::Mark => row.kind == MARK,
         Content::Text(value) => row.kind == TEXT && is_part(value, row, buffer),
         Content::Carried(value) => row.kind == CARRIED && is_part(value, row, buffer),
+        Content::Withdrawn => row.kind == WITHDRAWN,
     };
     product.tag == row.tag && same_content
 }

@@ -2,7 +2,7 @@
 
 use crate::catalogue::{form, Form, ALL, SMALLEST};
 use crate::make::Maker;
-use crate::twin::{Row, Twin, CARRIED, MARK, READING, TEXT};
+use crate::twin::{Row, Twin, CARRIED, MARK, READING, TEXT, WITHDRAWN};
 use crate::twin_write::Rows;
 use crate::wire::LAST_TAG;
 
@@ -54,7 +54,8 @@ impl Maker {
             0 | 1 => self.change_what_is_lent(table),
             2 | 3 => self.change_judged_values(table),
             4 => self.double_judged_rows(table),
-            5..=8 => self.rearrange(table),
+            5..=7 => self.rearrange(table),
+            8 | 9 => self.withdraw_a_row(table),
             _ => self.change_a_word(table),
         }
     }
@@ -130,7 +131,7 @@ impl Maker {
         let changed = &mut table.words[4 * n..4 * n + 4];
         match self.random.below(4) {
             0 => changed[0] = self.odd_tag(row.tag),
-            1 => changed[1] = self.random.pick(&[0, 1, 2, 3, 4, 5, 1 << 32, u64::MAX]),
+            1 => changed[1] = self.random.pick(&[0, 1, 2, 3, 4, 5, 6, 1 << 32, u64::MAX]),
             2 => changed[2] = self.odd_code(row.code, row.length.min(8)),
             _ => changed[3] = self.odd_value(&row, table.buffer.len()),
         }
@@ -142,11 +143,37 @@ impl Maker {
         }
     }
 
+    /// A row made withdrawn, also of a tag that may not be and of one that is not known, and left where it was or put beyond the buffer; now
+    /// and then with a code or a length. Half the time the row stays behind it.
+    fn withdraw_a_row(&mut self, table: &mut Table) {
+        if !table.has_all_rows() {
+            return;
+        }
+        let n = self.random.below(table.count);
+        let row = Row::from_words(&table.words[4 * n..]);
+        let far = [row.place, table.buffer.len() + 1, (1 << 48) - 1];
+        let withdrawn = Row {
+            kind: WITHDRAWN,
+            code: self.random.pick(&[0, 0, 0, 0, 0, 1, row.code]),
+            place: self.random.pick(&far),
+            length: self.random.pick(&[0, 0, 0, 0, 0, 1, row.length]),
+            ..row
+        };
+        if self.random.one_in(2) {
+            table.words.splice(4 * n..4 * n, row.words());
+            table.count += 1;
+        }
+        table.words[4 * n..4 * n + 4].copy_from_slice(&withdrawn.words());
+    }
+
     /// Texts' lengths and numbers' codes changed so that 12 or 14 may come.
     fn change_judged_values(&mut self, table: &mut Table) {
         let from = 4 * self.random.below(table.words.len() / 4 + 1);
         let lengths = [0, 1, 127, 128, 129, 200];
         let length = self.random.pick(&lengths);
+        // A text that is too long has to be in the buffer, since what is beyond is a bad row.
+        let bytes = table.buffer.len().max(length);
+        table.buffer.resize(bytes, 0x5A);
         let code = self.random.below(11) as u64;
         let over = self.random.below(3) as u64;
         for words in table.words[from..].chunks_exact_mut(4) {
@@ -256,7 +283,9 @@ impl Maker {
         let mut rows = Vec::new();
         for n in 0..self.random.below(6) {
             let tag = if n == 0 { 2 } else { self.odd_tag(64) };
-            let kind = self.random.pick(&[READING, MARK, TEXT, CARRIED, CARRIED]);
+            let kind = self
+                .random
+                .pick(&[READING, MARK, TEXT, CARRIED, CARRIED, WITHDRAWN]);
             let length = match form(tag) {
                 Some(Form::Extended) => Some(self.random.between(2, 4)),
                 form => form.and_then(Form::bytes),

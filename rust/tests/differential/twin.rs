@@ -38,7 +38,7 @@ alterations! {
     OneItemMore,
     Item63UpTo7,
     ChecksumRowsCodeAsked,
-    EmptyTextIsABadRow,
+    EmptyTextRowGets12,
     RestOfTheTableStays,
     PlaceOfNumbersAsked,
     BadRowsTagAlwaysNamed,
@@ -73,6 +73,20 @@ alterations! {
     LatitudeHeldAtThePole,
     PoleIsOffTheEarth,
     PoleBeforeMissing,
+    Item65MayBeWithdrawn,
+    ExtendedIsNeverWithdrawn,
+    LongFormOfZeroGets12,
+    EmptyTextStaysText,
+    EmptyUnknownIsWithdrawn,
+    WithdrawnMayStandTwice,
+    WithdrawnSetsNoBit,
+    CodeZeroIsWithdrawn,
+    PlaceOfWithdrawnAsked,
+    CodeOfWithdrawnIgnored,
+    WithdrawnOfALengthGets12,
+    WithdrawnHeightDecides,
+    WithdrawnCornerIsAMark,
+    WithdrawnListedAsAMark,
 }
 
 /// The twin, with at most one rule told wrongly.
@@ -97,6 +111,7 @@ pub const READING: u64 = 1;
 pub const MARK: u64 = 2;
 pub const TEXT: u64 = 3;
 pub const CARRIED: u64 = 4;
+pub const WITHDRAWN: u64 = 5;
 
 /// A row; its fourth word is taken apart.
 #[derive(Clone, Copy, PartialEq, Eq, Debug)]
@@ -326,17 +341,20 @@ impl<'a> Case<'a> {
                 let fault = self.twin.is(Altered::UnknownItemRefused);
                 return fault.then(|| refused(12, item.start, item.tag));
             };
-            let second = knows(seen, item.tag);
-            seen |= 1 << (item.tag % 128);
+            let once = self.twin.stands_once(self.is_withdrawn(item));
+            let second = once && knows(seen, item.tag);
+            seen |= u128::from(once) << (item.tag % 128);
             let number = self.known_item(item, form, second)?;
             Some(refused(number, item.start, item.tag))
         })
     }
 
-    /// The number of the refusal of one known item: 12, 13 and 14 are asked item by item.
+    /// The number of the refusal of one known item: 12, 13 and 14 are asked item by item. What is withdrawn has no code.
     fn known_item(&self, item: &Item, form: Form, second: bool) -> Option<u64> {
-        let right_length = self.twin.allows(form, item.length);
+        let withdrawn = self.is_withdrawn(item);
+        let right_length = withdrawn || self.twin.allows(form, item.length);
         let outside = right_length
+            && !withdrawn
             && self
                 .twin
                 .is_outside_its_codes(item.tag, form, item.length, self.code(item));
@@ -354,13 +372,25 @@ impl<'a> Case<'a> {
         (asked && absent).then(|| refused(15, 0, 0))
     }
 
+    /// Whether a known item is withdrawn: it has no bytes, in whatever form its length says so.
+    fn is_withdrawn(&self, item: &Item) -> bool {
+        // A known tag and a length in its shortest form have a byte each.
+        let is_long = item.place - item.start > 2;
+        let is_refused = is_long && self.twin.is(Altered::LongFormOfZeroGets12);
+        item.length == 0 && !is_refused && self.twin.may_be_withdrawn(item.tag)
+    }
+
     fn code(&self, item: &Item) -> u64 {
         number(&self.packet[item.place..item.place + item.length])
     }
 
     fn row(&self, item: &Item) -> Row {
+        let withdrawn = self.is_withdrawn(item);
         let (kind, code) = match self.twin.known_form(self.set, item.tag) {
+            None if withdrawn && self.twin.takes_for_withdrawn(item.tag) => (WITHDRAWN, 0),
             None => (CARRIED, 0),
+            Some(Form::Text) if self.twin.is(Altered::EmptyTextStaysText) => (TEXT, 0),
+            Some(_) if withdrawn => (WITHDRAWN, 0),
             Some(Form::Text) => (TEXT, 0),
             Some(form) => {
                 let code = self.code(item);

@@ -3,7 +3,7 @@
 use crate::catalogue::{
     form, unit, Form, Unit, ALL, DEGREE, DEGREE_CELSIUS, EXTENDED_HIGH, EXTENDED_LOW, METRE,
 };
-use crate::twin::{refused, Altered, Refused, Row, Twin, CARRIED, MARK, TEXT};
+use crate::twin::{refused, Altered, Refused, Row, Twin, CARRIED, MARK, TEXT, WITHDRAWN};
 
 /// As far as a latitude goes either way, and half a turn of longitude.
 pub const POLE: i64 = 90 * DEGREE;
@@ -251,6 +251,9 @@ impl Twin {
         let row = rows
             .iter()
             .find(|row| row.tag == tag && row.kind != CARRIED)?;
+        if row.kind == WITHDRAWN {
+            return self.house_of_withdrawn(tag);
+        }
         Some(self.to_house(row.tag, row.length, row.code).ok())
     }
 
@@ -341,11 +344,14 @@ impl Twin {
             MARK if !self.is(Altered::MarkListedAsANumber) => "mark",
             TEXT => "text",
             CARRIED => "carried",
+            WITHDRAWN => "withdrawn",
             _ => "number",
         };
         *listing += &format!("{}\t{}\t{}\t", row.place, row.tag, kind);
         match row.kind {
             MARK => listing.push('-'),
+            WITHDRAWN if self.is(Altered::WithdrawnListedAsAMark) => listing.push('-'),
+            WITHDRAWN => {}
             TEXT | CARRIED => push_hex(listing, &packet[row.place..row.place + row.length]),
             _ => match self.to_house(row.tag, row.length, row.code) {
                 Ok(value) => *listing += &value.to_string(),

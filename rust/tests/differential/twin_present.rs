@@ -1,14 +1,18 @@
 //! The twin's word on which items are there: W-201 of document 02, by plain scans of the rows.
 
 use crate::catalogue::knows;
-use crate::twin::{refused, Altered, Refused, Row, Twin, CARRIED};
+use crate::twin::{refused, Altered, Refused, Row, Twin, CARRIED, WITHDRAWN};
 
 impl Twin {
-    /// Whether a scan of all rows finds one of this tag that is not carried.
+    /// Whether a scan of all rows finds one of this tag that is not carried. A withdrawn one is not (W-204).
     pub fn is_there(self, rows: &[Row], tag: u64) -> bool {
-        let carried_too = self.is(Altered::CarriedSetsItsBit);
         let asked = self.asked(tag);
-        let is_one = |row: &&Row| row.tag == asked && (carried_too || row.kind != CARRIED);
+        let counts = |kind| match kind {
+            CARRIED => self.is(Altered::CarriedSetsItsBit),
+            WITHDRAWN => !self.is(Altered::WithdrawnSetsNoBit),
+            _ => true,
+        };
+        let is_one = |row: &&Row| row.tag == asked && counts(row.kind);
         let found = rows.iter().filter(is_one).count();
         if self.is(Altered::SecondClearsTheBit) {
             found % 2 == 1

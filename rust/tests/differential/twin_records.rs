@@ -1,7 +1,8 @@
 //! The twin's walker and its writer of records: the reader's and the writer's answers in another form.
 
 use crate::catalogue::{form, Form};
-use crate::twin::{is_good, refused, Altered, Refused, Row, Twin, CARRIED, MARK, READING, TEXT};
+use crate::twin::{is_good, refused, Altered, Refused, Row, Twin};
+use crate::twin::{CARRIED, MARK, READING, TEXT, WITHDRAWN};
 use crate::wire::MOST_ITEMS;
 
 /// A record: a row taken out singly. Only a reading has a code and its length, only text and carried have a value.
@@ -60,6 +61,7 @@ impl Twin {
                 ..row
             },
             MARK => self.marked(row),
+            WITHDRAWN => Row { length: 0, ..row },
             _ => {
                 buffer.extend_from_slice(record.value);
                 let wrapped = self.is(Altered::LongRecordWrapped);

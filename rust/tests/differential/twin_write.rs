@@ -1,7 +1,8 @@
 //! The twin's writer, forwarder and taking out of a row.
 
 use crate::catalogue::Form;
-use crate::twin::{is_good, refused, Altered, Refused, Row, Twin, CARRIED, MARK, READING, TEXT};
+use crate::twin::{is_good, refused, Altered, Refused, Row, Twin};
+use crate::twin::{CARRIED, MARK, READING, TEXT, WITHDRAWN};
 use crate::wire::{
     checksum, length_size, put_length, put_number, put_tag, tag_size, KEY, LAST_TAG, MOST_BYTES,
     MOST_ITEMS,
@@ -114,9 +115,10 @@ impl Twin {
         tag_is_good
             && match self.known_form(set, row.tag) {
                 None => row.kind == CARRIED && is_part,
+                Some(_) if row.kind == WITHDRAWN => self.is_good_withdrawal(row, inside),
                 Some(Form::Text) => {
-                    let empty = self.is(Altered::EmptyTextIsABadRow) && row.length == 0;
-                    row.kind == TEXT && is_part && !empty
+                    let has_some = row.length > 0 || self.is(Altered::EmptyTextRowGets12);
+                    row.kind == TEXT && is_part && has_some
                 }
                 Some(_) if self.is(Altered::PlaceOfNumbersAsked) && row.place > 65_535 => false,
                 Some(form) => self.is_good_number(row, form),
@@ -170,11 +172,17 @@ impl Twin {
     fn known_row(self, rows: &[Row], n: usize, set: u128) -> Option<Refused> {
         let row = &rows[n];
         let form = self.known_form(set, row.tag)?;
+        let withdrawn = row.kind == WITHDRAWN;
         // The writer works the checksum out afresh, so the code of its row is outside no codes.
-        let outside =
-            row.tag != 1 && self.is_outside_its_codes(row.tag, form, row.length, row.code);
-        let wrong_length = !self.allows(form, row.length);
-        let second = rows[..n].iter().any(|earlier| earlier.tag == row.tag);
+        let has_code = row.tag != 1 && !withdrawn;
+        let outside = has_code && self.is_outside_its_codes(row.tag, form, row.length, row.code);
+        let wrong_length = match withdrawn {
+            true => row.length != 0,
+            false => !self.allows(form, row.length),
+        };
+        let once = |row: &Row| self.stands_once(row.kind == WITHDRAWN);
+        let is_same = |earlier: &Row| earlier.tag == row.tag && once(earlier);
+        let second = once(row) && rows[..n].iter().any(is_same);
         let judgements = [(wrong_length, 12), (second, 13), (outside, 14)];
         let (_, number) = judgements.into_iter().find(|&(given, _)| given)?;
         Some(refused(number, n, row.tag))
@@ -200,6 +208,7 @@ impl Twin {
                     let sum = checksum(&packet);
                     put_number(&mut packet, sum, 2);
                 }
+                WITHDRAWN => {}
                 _ => put_number(&mut packet, row.code, row.length),
             }
         }

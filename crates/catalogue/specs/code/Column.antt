@@ -1,8 +1,9 @@
 -- The shadow of the code, not to be believed but proved to be what document 01's definitions give: the shapes of all tags
--- below 128 as a column of bytes, and their widths as another.
+-- below 128 as a column of bytes, and masks of their lengths as another.
 use Prim.Native.Nat.{ℕ, zero, suc, _+_, _/_, _%_}
 use mathlib.Core.Bool.{Bool, false, cond, _||_}
 use mathlib.Core.List.{List, [], _∷_}
+use lib.Bits.{bitOr}
 use lib.Dec.{leb, eqb}
 use lib.ListN.{getD}
 use Rattle.catalogue.specs.Extended.{isExtended}
@@ -28,12 +29,21 @@ shapeFrom b =
     cond (eqb (b / 16 % 8) 4) Absent
     (cond (eqb (b / 16 % 8) 3) Text (Number (b % 16) (b % 16) (leb 128 b)))
 
+-- a mask for a glance at a length of one byte: within it lie no bytes and the width, which is a power of two, and of a text every length
+abbrev pub lengthMask : Shape → ℕ
+lengthMask Text = 127
+lengthMask (Number least most marked) = shapeMask (Number least most marked)
+lengthMask Absent = 127
+
+abbrev pub within : ℕ → ℕ → Bool
+within mask n = eqb (bitOr n mask) mask
+
 -- a closer look than at one length: no item has tag 0, and an extended height has more lengths
 abbrev pub isClose : ℕ → Bool
 isClose t = eqb t 0 || isExtended t
 
-abbrev pub widthByte : ℕ → ℕ
-widthByte t = cond (isClose t) 128 (shapeMask (shapeOf t))
+abbrev pub maskByte : ℕ → ℕ
+maskByte t = cond (isClose t) 128 (lengthMask (shapeOf t))
 
 -- the bytes of n tags from t on
 unfoldable pub columnFrom : (ℕ → ℕ) → ℕ → ℕ → List ℕ
@@ -43,8 +53,8 @@ columnFrom byte (suc n) t = byte t ∷ columnFrom byte n (suc t)
 unfoldable pub shapeColumn : List ℕ
 shapeColumn = columnFrom (λ t. shapeByte (shapeOf t)) 128 0
 
-unfoldable pub widthColumn : List ℕ
-widthColumn = columnFrom widthByte 128 0
+unfoldable pub maskColumn : List ℕ
+maskColumn = columnFrom maskByte 128 0
 
 -- the shape that any column has for a tag
 unfoldable pub shapeIn : List ℕ → ℕ → Shape

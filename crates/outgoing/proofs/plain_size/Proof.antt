@@ -36,23 +36,36 @@ has-requires-2 c κs = search needs
 returns : tie.Need-returns
 returns c h = absurd (omega arith)
 
+shape-at-requires : tie.Need-shape-at-requires
+shape-at-requires c κs = search needs
+
+known-size-requires : tie.Need-known-size-requires
+known-size-requires c κs = search needs
+
+-- one of no bytes
+returns-2 : tie.Need-returns-2
+returns-2 c h =
+    let found = c .before in
+    let first = found .before .before .before in
+    plainly first _ _ (found .shape-at .ensures ∙ by-column first) (c .known-size .ensures h)
+
 is-extended-requires : tie.Need-is-extended-requires
 is-extended-requires c κs = search needs
 
 height-size-requires : tie.Need-height-size-requires
-height-size-requires c κs = sym (c .before .is-extended .ensures) ∙ c .if3 .taken
+height-size-requires c κs = sym (c .before .is-extended .ensures) ∙ c .if4 .taken
 
-returns-2 : tie.Need-returns-2
-returns-2 c h = plainly (c .before .before .before) _ _ refl (c .height-size .ensures _ h)
+returns-3 : tie.Need-returns-3
+returns-3 c h = plainly (c .before .before .before .before .before) _ _ refl (c .height-size .ensures _ h)
 
-shape-at-requires : tie.Need-shape-at-requires
-shape-at-requires c κs = search needs
+shape-at-requires-2 : tie.Need-shape-at-requires-2
+shape-at-requires-2 c κs = search needs
 
 enum-known-least : tie.Need-enum-known-least
 enum-known-least c = search needs
 
-known-size-requires : tie.Need-known-size-requires
-known-size-requires c κs = search needs
+value-size-requires : tie.Need-value-size-requires
+value-size-requires c κs = search needs
 
 enum-told : tie.Need-enum-told
 enum-told c = search needs
@@ -63,37 +76,35 @@ known-size-requires-2 c κs = search needs
 enum-told-2 : tie.Need-enum-told-2
 enum-told-2 c = search needs
 
-returns-3 : tie.Need-returns-3
-returns-3 c h =
-    let found = c .before .before .before .before in
-    plainly (found .before .before .before) _ _
-    (sym (c .before .before .least .given .1) ∙ (found .shape-at .ensures ∙ by-column (found .before .before .before)))
-    (c .known-size .ensures h)
-
 returns-4 : tie.Need-returns-4
 returns-4 c h =
-    let found = c .before .before .before in
-    plainly (found .before .before .before) _ _
-    (sym (c .before .enum-told .given .1) ∙ (found .shape-at .ensures ∙ by-column (found .before .before .before)))
-    (c .known-size2 .ensures h)
+    let found = c .before .before .before .before in
+    let first = found .before .before .before .before .before in
+    plainly first _ _ (sym (c .before .before .least .given .1) ∙ (found .shape-at2 .ensures ∙ by-column first)) (c .value-size .ensures h)
 
 returns-5 : tie.Need-returns-5
-returns-5 c h = absurd (omega arith)
+returns-5 c h =
+    let found = c .before .before .before in
+    let first = found .before .before .before .before .before in
+    plainly first _ _ (sym (c .before .enum-told .given .1) ∙ (found .shape-at2 .ensures ∙ by-column first)) (c .known-size2 .ensures h)
 
-is-good-row-requires : tie.Need-is-good-row-requires
-is-good-row-requires c κs = search needs
+returns-6 : tie.Need-returns-6
+returns-6 c h = absurd (omega arith)
+
+is-good-value-row-requires : tie.Need-is-good-value-row-requires
+is-good-value-row-requires c κs = search needs
 
 row-size-requires : tie.Need-row-size-requires
 row-size-requires c κs = search needs
 
-returns-6 : tie.Need-returns-6
-returns-6 c h =
-    let good = c .before .before in
-    carried-plain _ _ _ _ (sym (good .before .before .has .ensures) ∙ good .before .if1 .left) (sym (good .is-good-row .ensures) ∙ c .before .if4 .taken)
-    (c .row-size .ensures)
-
 returns-7 : tie.Need-returns-7
-returns-7 c h = absurd (omega arith)
+returns-7 c h =
+    let good = c .before .before in
+    carried-plain _ _ _ _ (sym (good .before .before .has .ensures) ∙ good .before .if1 .left)
+    (sym (good .is-good-value-row .ensures) ∙ c .before .if5 .taken) (c .row-size .ensures)
+
+returns-8 : tie.Need-returns-8
+returns-8 c h = absurd (omega arith)
 
 pub plain-size-spec : {M : Type 1} → statement M
 plain-size-spec =
@@ -102,19 +113,22 @@ plain-size-spec =
     has-requires
     has-requires-2
     returns
+    shape-at-requires
+    known-size-requires
+    returns-2
     is-extended-requires
     height-size-requires
-    returns-2
-    shape-at-requires
+    returns-3
+    shape-at-requires-2
     enum-known-least
-    known-size-requires
+    value-size-requires
     enum-told
     known-size-requires-2
     enum-told-2
-    returns-3
     returns-4
     returns-5
-    is-good-row-requires
-    row-size-requires
     returns-6
-    returns-7)
+    is-good-value-row-requires
+    row-size-requires
+    returns-7
+    returns-8)

@@ -8,21 +8,21 @@ use mathlib.Core.Path.{_≡_, sym, _∙_}
 use mathlib.Core.Logic.{⊎-elim}
 use borrow.Author.Tests.{eq-eqb, ne-eqb}
 use Rattle.rows.specs.Meaning.{carriedKind}
-use Rattle.rows.specs.Present.{withRow, presentFrom, presentIn}
+use Rattle.rows.specs.Present.{isPresent, withRow, wordsFrom, presentIn}
 use Rattle.packet.specs.Rows.{rowsIn}
 use Rattle.outgoing.proofs.Walked.{words-more, words-end}
 use Rattle.outgoing.proofs.present_of.Statement.{statement}
 use Rattle.outgoing.proofs.present_of.Tie as tie
 
 abbrev Inv-loop : tie.InvT-loop
-Inv-loop count words present₀ n₀ present n = presentFrom present (rowsIn n (count - n) words) ≡ presentIn (rowsIn 0 count words)
+Inv-loop count words present₀ n₀ present n = wordsFrom isPresent present (rowsIn n (count - n) words) ≡ presentIn (rowsIn 0 count words)
 
 abbrev μ-loop : tie.MeasureT-loop
 μ-loop count words present₀ n₀ present n = count - n
 
 -- the words with the row that was passed
 passed : (c : tie.Joined1 Inv-loop μ-loop)
-    → (let row = c .before .before in c .if1 .present ≡ withRow (row .before .before .loop .present) (row .row-at .result))
+    → (let row = c .before .before in c .if1 .present ≡ withRow isPresent (row .before .before .loop .present) (row .row-at .result))
 passed c =
     let kind = c .before .before .row-at .result .kind in
     ⊎-elim

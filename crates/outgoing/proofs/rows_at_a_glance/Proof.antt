@@ -9,7 +9,7 @@ use Rattle.base.proofs.Cases.{clash}
 use Rattle.tagset.specs.Sets.{noTags, holds, meet}
 use Rattle.tagset.proofs.Laws.{Words, no-words, with-words}
 use Rattle.tagset.proofs.Meeting.{meet-none}
-use Rattle.rows.specs.Present.{presentFrom, presentIn}
+use Rattle.rows.specs.Present.{isPresent, wordsFrom, presentIn}
 use Rattle.packet.specs.Rows.{rowsIn}
 use Rattle.outgoing.specs.Outgoing.{rightRows}
 use Rattle.outgoing.specs.code.Staged.{rowsSize, rowsJudged}
@@ -24,7 +24,7 @@ Inv-loop column known count words room seen₀ items₀ n₀ seen items n =
     (rightRows (holds known) room n (rowsIn n (count - n) words) ≡ rightRows (holds known) room 0 (rowsIn 0 count words))
     × (rowsJudged known seen n (rowsIn n (count - n) words) ≡ rowsJudged known noTags 0 (rowsIn 0 count words))
     × (items + rowsSize (rowsIn n (count - n) words) ≡ rowsSize (rowsIn 0 count words))
-    × (presentFrom (meet seen known) (rowsIn n (count - n) words) ≡ presentIn (rowsIn 0 count words))
+    × (wordsFrom isPresent (meet seen known) (rowsIn n (count - n) words) ≡ presentIn (rowsIn 0 count words))
     × Words seen
 
 abbrev μ-loop : tie.MeasureT-loop

@@ -21,13 +21,31 @@ refused-requires c κs = search needs
 enum-known-accepted : tie.Need-enum-known-accepted
 enum-known-accepted c = search needs
 
+words-of-requires : tie.Need-words-of-requires
+words-of-requires c κs = search needs
+
+words-of-requires-2 : tie.Need-words-of-requires-2
+words-of-requires-2 c κs = search needs
+
 returns : tie.Need-returns
 returns c =
-    ap (λ x. counting x 0 noTags) (c .refused .ensures)
+    ap (λ x. counting x 0 noTags noTags) (c .refused .ensures)
     ∙ said itemsAnswer checkSaid (c .before .before .cause .given .1) (c .before .before .before .before .check .ensures)
 
 returns-2 : tie.Need-returns-2
-returns-2 c = said itemsAnswer checkSaid (c .before .before .accepted .given .1) (c .before .before .before .before .check .ensures)
+returns-2 c =
+    let a = c .before .before .before in
+    rw (c .words-of2 .ensures, c .before .words-of .ensures) (said itemsAnswer checkSaid (a .accepted .given .1) (a .before .before .check .ensures))
 
 pub oyk-check-spec : {M : Type 1} → statement M
-oyk-check-spec = tie.close (tie.spec check-requires enum-known-cause refused-requires enum-known-accepted returns returns-2)
+oyk-check-spec =
+    tie.close
+    (tie.spec
+    check-requires
+    enum-known-cause
+    refused-requires
+    enum-known-accepted
+    words-of-requires
+    words-of-requires-2
+    returns
+    returns-2)

@@ -1,10 +1,14 @@
 -- `packet::any_glance_at` meets its contract.
 -- Assumes nothing.
-use mathlib.Core.Path.{_≡_, sym, ap, _∙_}
+use Prim.Native.Nat.{_+_}
+use mathlib.Core.Path.{_≡_, refl, sym, ap, _∙_}
+use mathlib.Core.Bool.{false}
+use lib.ListN.{length}
 use native.Mathlib.Omega.{arith}
 use Rattle.refusal.specs.Answer.{given}
 use Rattle.number.proofs.Laws.{bytes-lent}
 use Rattle.packet.specs.Said.{headerAt, stepSaid}
+use Rattle.packet.specs.declared.Glance.{Glance}
 use Rattle.packet.proofs.Walks.{Lies, header-lies}
 use Rattle.packet.proofs.Glancing.{glance-none, glance-item}
 use borrow.Author.Needs.{needs}
@@ -39,20 +43,25 @@ is-fit-requires : tie.Need-is-fit-requires
 is-fit-requires c κs = (c .before .before .before .before .before .before .pre, lies c .inside)
 
 found-at-requires : tie.Need-found-at-requires
-found-at-requires c κs = omega (arith, lies (c .before) .inside, c .before .before .before .before .before .before .before .good)
+found-at-requires c κs = omega (arith, lies (c .before .before) .inside, c .before .before .before .before .before .before .before .before .good)
 
-add-t12 : tie.Need-add-t12
-add-t12 c = omega (arith, lies (c .before .before .before) .inside, c .before .before .before .before .before .before .before .before .before .good)
+add-t13 : tie.Need-add-t13
+add-t13 c =
+    let k = c .before .before .before .before in
+    omega (arith, lies k .inside, k .before .before .before .before .before .before .good)
 
 longer-by-requires : tie.Need-longer-by-requires
-longer-by-requires c κs = lies (c .before .before .before) .formed
+longer-by-requires c κs = lies (c .before .before .before .before) .formed
 
 returns : tie.Need-returns
-returns c = glance-none _ _ _ _ _ (sym (c .before .before .any-item-at .ensures) ∙ ap stepSaid (c .enum-told .given .1)) _ (omega arith)
+returns c =
+    let a = c .before .before .before .before .args in
+    let none : Glance = record { tag = 0; fit = false; empty = false; place = 0; past = length (a .packet .now) + 1; longer = 0 } in
+    glance-none _ _ _ _ _ (sym (c .before .before .any-item-at .ensures) ∙ ap stepSaid (c .enum-told .given .1)) none refl (omega arith)
 
 returns-2 : tie.Need-returns-2
 returns-2 c =
-    let f = c .before .before .before in
+    let f = c .before .before .before .before in
     rw (c .longer-by .ensures, c .before .before .found-at .ensures, f .before .one-byte .ensures)
     (glance-item _ _ _ (found (f .before)) (lies (f .before) .inside) _ (f .is-fit .ensures))
 
@@ -67,7 +76,7 @@ any-glance-at-spec =
     one-byte-requires
     is-fit-requires
     found-at-requires
-    add-t12
+    add-t13
     longer-by-requires
     returns
     returns-2)

@@ -26,7 +26,7 @@ header-at-requires : tie.Need-header-at-requires
 header-at-requires c κs = search needs
 
 closed-requires : tie.Need-closed-requires
-closed-requires c κs = rw (c .header-at .ensures) (last-inside _ (words c) _ (bytes c) _ _ _ _ (c .before .before .pre))
+closed-requires c κs = rw (c .header-at .ensures) (last-inside _ (words c) _ (bytes c) _ _ (c .before .before .pre))
 
 enum-known-refusal : tie.Need-enum-known-refusal
 enum-known-refusal c = search needs
@@ -36,15 +36,15 @@ enum-told c = search needs
 
 is-clean-requires : tie.Need-is-clean-requires
 is-clean-requires c κs =
-    let d = c .before .before .before in places-inside _ (words d) _ (bytes d) _ _ _ _ (d .before .before .pre)
+    let d = c .before .before .before in places-inside _ (words d) _ (bytes d) _ _ (d .before .before .pre)
 
 returns : tie.Need-returns
 returns c =
     let d = c .before .before .before .before .before in
     let w = d .before .before .pre in
-    sym (right-by _ (words d) _ (bytes d) _ _ _ _ w
+    sym (right-by _ (words d) _ (bytes d) _ _ w
     ∙ rw (sym (ended (c .before .before .before .before)) ∙ ap rightSaid (c .before .before .enum-told .given .1))
-    (clean-right _ (words d) _ (bytes d) _ _ _ _ w (sym (c .before .is-clean .ensures) ∙ c .if1 .taken)))
+    (clean-right _ (words d) _ (bytes d) _ _ w (sym (c .before .is-clean .ensures) ∙ c .if1 .taken)))
 
 judged-requires : tie.Need-judged-requires
 judged-requires c κs =
@@ -54,13 +54,13 @@ returns-2 : tie.Need-returns-2
 returns-2 c =
     let d = c .before .before .before .before in
     let e = sym (ended (c .before .before .before)) ∙ ap rightSaid (c .before .refusal .given .1) in
-    sym (right-by _ (words d) _ (bytes d) _ _ _ _ (d .before .before .pre) ∙ rw e)
+    sym (right-by _ (words d) _ (bytes d) _ _ (d .before .before .pre) ∙ rw e)
 
 returns-3 : tie.Need-returns-3
 returns-3 c =
     let d = c .before .before .before .before .before .before in
     let e = sym (ended (c .before .before .before .before .before)) ∙ ap rightSaid (c .before .before .before .enum-told .given .1) in
-    c .judged .ensures ∙ sym (right-by _ (words d) _ (bytes d) _ _ _ _ (d .before .before .pre) ∙ rw e)
+    c .judged .ensures ∙ sym (right-by _ (words d) _ (bytes d) _ _ (d .before .before .pre) ∙ rw e)
 
 pub concluded-spec : {M : Type 1} → statement M
 concluded-spec =

@@ -22,12 +22,8 @@ returns : tie.Need-returns
 unfolding cleanIn
 returns c = sym (rw (ne-eqb _ _ (λ q. c .if1 .taken (c .before .size-of .ensures ∙ q))))
 
-element-copy-out-if2 : tie.Need-element-copy-out-if2
-element-copy-out-if2 c = search needs
-
-returns-2 : tie.Need-returns-2
-unfolding cleanIn
-returns-2 c = sym (rw (even (c .before .before), eq-eqb _ _ (c .if2 .taken)))
+is-whole-requires : tie.Need-is-whole-requires
+is-whole-requires c κs = search needs
 
 is-coded-requires : tie.Need-is-coded-requires
 is-coded-requires c κs = (omega arith, c .before .before .before .before .before .pre .inside 34)
@@ -35,18 +31,24 @@ is-coded-requires c κs = (omega arith, c .before .before .before .before .befor
 is-coded-requires-2 : tie.Need-is-coded-requires-2
 is-coded-requires-2 c κs = (omega arith, c .before .before .before .before .before .before .before .pre .inside 63)
 
+returns-2 : tie.Need-returns-2
+unfolding cleanIn
+returns-2 c =
+    let d = c .before .before .before in
+    let w = d .before in
+    c .is-coded2 .ensures
+    ∙ sym (rw (even (w .before), sym (w .is-whole .ensures) ∙ d .if2 .taken, sym (c .before .before .is-coded .ensures) ∙ c .before .if3 .taken))
+
 returns-3 : tie.Need-returns-3
 unfolding cleanIn
 returns-3 c =
-    let d = c .before .before .before in
-    c .is-coded2 .ensures
-    ∙ sym (rw (even (d .before .before), ne-eqb _ _ (d .if2 .left), sym (c .before .before .is-coded .ensures) ∙ c .before .if3 .taken))
+    let d = c .before .before in
+    let w = d .before in
+    sym (rw (even (w .before), sym (w .is-whole .ensures) ∙ d .if2 .taken, sym (c .before .is-coded .ensures) ∙ c .if3 .left))
 
 returns-4 : tie.Need-returns-4
 unfolding cleanIn
-returns-4 c =
-    let d = c .before .before in
-    sym (rw (even (d .before .before), ne-eqb _ _ (d .if2 .left), sym (c .before .is-coded .ensures) ∙ c .if3 .left))
+returns-4 c = let w = c .before in sym (rw (even (w .before), sym (w .is-whole .ensures) ∙ c .if2 .left))
 
 pub is-clean-spec : {M : Type 1} → statement M
 is-clean-spec =
@@ -54,9 +56,9 @@ is-clean-spec =
     (tie.spec
     size-of-requires
     returns
-    element-copy-out-if2
-    returns-2
+    is-whole-requires
     is-coded-requires
     is-coded-requires-2
+    returns-2
     returns-3
     returns-4)

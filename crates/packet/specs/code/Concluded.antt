@@ -17,14 +17,13 @@ use Rattle.packet.specs.Ends.{rightEnds}
 use Rattle.packet.specs.Structure.{frame, rightSum, closed}
 use Rattle.packet.specs.Verdict.{judged, bodyOf, noPlaces, placesFrom}
 use Rattle.packet.specs.Said.{headerAt, checkSaid}
-use Rattle.packet.specs.code.Passing.{freshAt, keptFrom}
+use Rattle.packet.specs.code.Passing.{Kept, freshAt, keptFrom}
 use Rattle.packet.specs.declared.Accepted.{Accepted}
 use Rattle.packet.specs.declared.Checked.{Checked}
 use Rattle.packet.specs.declared.Ends.{Ends}
 use Rattle.packet.specs.declared.Frame.{Frame}
 use Rattle.packet.specs.declared.Frame.the-variants as framed
 use Rattle.packet.specs.declared.Header.{Header}
-use Rattle.packet.specs.declared.Passed.{Passed}
 
 abbrev pub frameSaid : Frame → Answer ℕ
 frameSaid (framed.From at) = given at
@@ -70,26 +69,33 @@ rightFrom K p from = bare (then (closed p (itemsAt p from)) (judged (holds K)))
 abbrev pub judgedFrom : TagSet → List ℕ → ℕ → Answer (Unit {0})
 judgedFrom K p from = bare (judged (holds K) (itemsAt p from))
 
--- an item of one byte is not there, not known, or has one of its codes
+-- an item of one byte has no value, is not known, or has one of its codes
 abbrev pub codedIn : TagSet → List ℕ → List ℕ → ℕ → Bool
 codedIn K p places t = cond (ltb 0 (getD places t 0)) (cond (holds K t) (codeAllowed t 1 (getD p (getD places t 0 - 1) 0)) true) true
 
+-- a value was found for a tag
+abbrev pub foundIn : List ℕ → ℕ → Bool
+foundIn places t = not (eqb (getD places t 0) 0)
+
+-- and for what a packet needs
+abbrev pub wholeIn : List ℕ → Bool
+wholeIn places = foundIn places 1 && (foundIn places 2 && foundIn places 65)
+
 -- as many tags noted as known items passed: each is fit and stands once
 unfoldable pub cleanIn : TagSet → List ℕ → List ℕ → TagSet → ℕ → Bool
-cleanIn K p places present known =
-    eqb (size present) known && (not (eqb (getD places 65 0) 0) && (codedIn K p places 34 && codedIn K p places 63))
+cleanIn K p places present known = eqb (size present) known && (wholeIn places && (codedIn K p places 34 && codedIn K p places 63))
 
 -- all places lie in a packet of so many bytes
 pub record PlacesIn (bytes : ℕ) (places : List ℕ) : Type 0 where
   pub inside : (t : ℕ) → getD places t 0 ≤ bytes
 
 -- a walk that has come to the packet's end
-pub record Whole (K : TagSet) (p : List ℕ) (from : ℕ) (r : Passed) (places : List ℕ) (present : TagSet) : Type 0 where
+pub record Whole (K : TagSet) (p : List ℕ) (from : ℕ) (k : Kept) : Type 0 where
   pub known : good K ≡ true
   pub inside : from ≤ length p
   pub items : List Item
   pub walked : walk 128 from (drop from p) ≡ given items
-  pub keeps : keptFrom K (freshAt from noPlaces noTags) items ≡ record { passed = r; places = places; present = present }
+  pub keeps : keptFrom K (freshAt from noPlaces noTags noTags) items ≡ k
 
 -- a packet of a right frame, whose items begin at a place; nothing is kept of them yet
 pub record Begins (K : TagSet) (p : List ℕ) (from : ℕ) (places : List ℕ) : Type 0 where

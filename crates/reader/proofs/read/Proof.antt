@@ -74,9 +74,9 @@ same-length c = search needs
 
 returns-3 : tie.Need-returns-3
 returns-3 c =
-    let d = c .before .before .before .before .before .before .before .before .before in
-    filled _ _ _ (known d) (room d) (bytes d) _ (accepts d) _ _ (c .before .before .before .before .before .before .before .fill .ensures)
-    (c .before .before .before .clear .ensures)
+    let d = c .before .before .before .before .before .before .before .before .before .before in
+    filled _ _ _ (known d) (room d) (bytes d) _ (accepts d) _ _ (c .before .before .before .before .before .before .before .before .fill .ensures)
+    (c .before .before .before .before .clear .ensures)
 
 refused-requires-2 : tie.Need-refused-requires-2
 refused-requires-2 c κs = search needs

@@ -1,7 +1,7 @@
 -- `reader::row_of` meets its contract.
 -- Assumes nothing.
 use Prim.Native.Nat.{_+_, _-_, _*_, _/_, _%_, _^_}
-use mathlib.Core.Path.{_≡_, sym, ap, _∙_}
+use mathlib.Core.Path.{_≡_, sym, ap, ap₂, _∙_}
 use lib.Bits.{bitAnd}
 use lib.ListN.{length, take, drop}
 use Rattle.number.specs.Stored.{valueOf}
@@ -83,7 +83,8 @@ returns c =
     let byte = v .before .before .byte-for .ensures in
     let width = ap (λ b. bitAnd (i .size) (b % 16)) byte ∙ ap (λ m. bitAnd m (shape % 16)) (sym (size v)) in
     let top = c .before .before .topmost .ensures ∙ ap (λ w. topOf w (v .value .result)) width in
-    let kind = c .before .kind-by .ensures ∙ (ap (λ b. kindBy b (c .before .before .topmost .result)) byte ∙ (ap (kindBy shape) top ∙ told v .kind)) in
+    let kind = c .before .kind-by .ensures ∙ (ap₂ (λ b m. kindBy b m (c .before .before .topmost .result)) byte (sym (size v))
+    ∙ (ap (kindBy shape n) top ∙ told v .kind)) in
     let code = c .lowest .ensures ∙ (ap (λ w. c .before .before .topmost .result / 2 ^ (64 - 8 * w)) width
     ∙ (ap (λ t. t / 2 ^ (64 - 8 * bitAnd n (shape % 16))) top ∙ told v .code)) in
     λ k. record { tag = i .tag; kind = kind k; code = code k; part = i .place * 65536 + sym (size v) k }

@@ -11,6 +11,7 @@ use Rattle.tagset.specs.declared.TagSet.{TagSet}
 use Rattle.catalogue.specs.code.Column.{shapeMask}
 use Rattle.catalogue.specs.declared.Shape.{Shape}
 use Rattle.catalogue.specs.declared.Shape.the-variants.{Text, Number, Absent}
+use Rattle.rows.specs.Meaning.{carriedKind, withdrawnKind}
 use Rattle.packet.specs.Pieces.{Item}
 use Rattle.packet.specs.Structure.{ItemsFrom}
 use Rattle.packet.specs.Said.{headerAt}
@@ -22,16 +23,18 @@ use Rattle.packet.specs.declared.Header.{Header}
 abbrev pub putRow : List ℕ → ℕ → RowWords → List ℕ
 putRow t n r = sets t (4 * n) (r .tag ∷ r .kind ∷ r .code ∷ r .part ∷ [])
 
--- a number has from one to eight bytes, which lie within its mask, and one length if it has a mark; text and carried bytes are not read as numbers
+-- a number has up to eight bytes, which lie within its mask, and one length if it has a mark; text and carried bytes are not read as numbers
 pub record Fitting (shape : Shape) (marked : Bool) (most n : ℕ) : Type 0 where
-  pub some : 1 ≤ n
   pub few : n ≤ 8
   pub within : bitAnd n (shapeMask shape) ≡ n
-  pub mask : shapeMask shape ≤ 8
   pub one : marked ≡ true → n ≡ most
 
+pub record Masked (shape : Shape) (marked : Bool) (most n : ℕ) : Type 0 where
+  pub mask : shapeMask shape ≤ 8
+  pub fits : (n ≡ 0 → ⊥) → Fitting shape marked most n
+
 abbrev pub Narrow : Shape → ℕ → Type 0
-Narrow (Number least most marked) n = Fitting (Number least most marked) marked most n
+Narrow (Number least most marked) n = Masked (Number least most marked) marked most n
 Narrow Text n = Unit {0}
 Narrow Absent n = Unit {0}
 
@@ -39,9 +42,12 @@ Narrow Absent n = Unit {0}
 abbrev pub topOf : ℕ → ℕ → ℕ
 topOf width word = word * 2 ^ (64 - 8 * width) % 2 ^ 64
 
--- the kind by a shape's byte and a code at the top
-abbrev pub kindBy : ℕ → ℕ → ℕ
-kindBy byte top = cond (eqb top (2 ^ 63)) (byte / 16 % 8 + byte / 128) (byte / 16 % 8)
+-- the kind by a shape's byte, a length and a code at the top
+abbrev pub kindBy : ℕ → ℕ → ℕ → ℕ
+kindBy byte size top =
+    cond (eqb size 0)
+    (cond (eqb (byte / 16 % 8) carriedKind) carriedKind withdrawnKind)
+    (cond (eqb top (2 ^ 63)) (byte / 16 % 8 + byte / 128) (byte / 16 % 8))
 
 -- there is an item at a place
 pub record ItemAt (p : List ℕ) (at : ℕ) : Type 0 where

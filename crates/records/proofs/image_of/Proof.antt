@@ -36,6 +36,12 @@ enum-known-content-3 c = search needs
 row-with-requires-4 : tie.Need-row-with-requires-4
 row-with-requires-4 c κs = search needs
 
+enum-told-2 : tie.Need-enum-told-2
+enum-told-2 c = search needs
+
+row-with-requires-5 : tie.Need-row-with-requires-5
+row-with-requires-5 c κs = search needs
+
 returns : tie.Need-returns
 returns c = c .row-with .ensures ∙ image-by _ _ (c .before .before .content .given .1)
 
@@ -49,6 +55,9 @@ returns-3 c = c .row-with3 .ensures ∙ image-by _ _ (c .before .before .content
 
 returns-4 : tie.Need-returns-4
 returns-4 c = c .row-with4 .ensures ∙ image-by _ _ (c .before .before .content3 .given .1)
+
+returns-5 : tie.Need-returns-5
+returns-5 c = c .row-with5 .ensures ∙ image-by _ _ (c .before .enum-told2 .given .1)
 
 pub image-of-spec : {M : Type 1} → statement M
 image-of-spec =
@@ -64,7 +73,10 @@ image-of-spec =
     row-with-requires-3
     enum-known-content-3
     row-with-requires-4
+    enum-told-2
+    row-with-requires-5
     returns
     returns-2
     returns-3
-    returns-4)
+    returns-4
+    returns-5)

@@ -1,46 +1,31 @@
 -- `rows::kind_of` meets its contract.
 -- Assumes nothing.
+use mathlib.Core.Path.{_≡_, sym, _∙_}
+use mathlib.Core.Bool.{true, false}
+use Rattle.catalogue.specs.Shapes.{isEmpty}
+use Rattle.rows.proofs.Laws.{kind-valued}
 use borrow.Author.Needs.{needs}
 use Rattle.rows.proofs.kind_of.Statement.{statement}
 use Rattle.rows.proofs.kind_of.Tie as tie
 
-enum-told : tie.Need-enum-told
-enum-told c = search needs
-
-enum-told-2 : tie.Need-enum-told-2
-enum-told-2 c = search needs
-
-enum-known-shape : tie.Need-enum-known-shape
-enum-known-shape c = search needs
-
-is-mark-requires : tie.Need-is-mark-requires
-is-mark-requires c κs = search needs
+is-empty-requires : tie.Need-is-empty-requires
+is-empty-requires c κs = search needs
 
 returns : tie.Need-returns
-returns c = rw (c .before .before .before .before .shape .given .1, c .before .before .if1 .taken, ← c .before .is-mark .ensures, c .if2 .taken)
+returns c =
+    let args = c .before .before .args in
+    let empty : isEmpty (args .shape) (args .size) ≡ true = sym (c .before .is-empty .ensures) ∙ c .if1 .taken in
+    rw empty
+
+kind-of-value-requires : tie.Need-kind-of-value-requires
+kind-of-value-requires c κs = search needs
 
 returns-2 : tie.Need-returns-2
-returns-2 c = search needs
-
-returns-3 : tie.Need-returns-3
-returns-3 c = search needs
-
-returns-4 : tie.Need-returns-4
-returns-4 c = rw (c .before .before .before .before .shape .given .1, c .before .before .if1 .taken, ← c .before .is-mark .ensures, c .if2 .left)
-
-returns-5 : tie.Need-returns-5
-returns-5 c = search needs
+returns-2 c =
+    let x = c .before .before in
+    let args = x .before .args in
+    let some : isEmpty (args .shape) (args .size) ≡ false = sym (x .is-empty .ensures) ∙ c .before .if1 .left in
+    rw some (c .kind-of-value .ensures ∙ kind-valued 0 tt (args .size) tt (args .shape) (args .code))
 
 pub kind-of-spec : {M : Type 1} → statement M
-kind-of-spec =
-    tie.close
-    (tie.spec
-    enum-told
-    enum-told-2
-    enum-known-shape
-    is-mark-requires
-    returns
-    returns-2
-    returns-3
-    returns-4
-    returns-5)
+kind-of-spec = tie.close (tie.spec is-empty-requires returns kind-of-value-requires returns-2)

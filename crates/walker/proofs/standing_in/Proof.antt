@@ -27,8 +27,9 @@ kind-of-requires : tie.Need-kind-of-requires
 kind-of-requires c κs = search needs
 
 returns : tie.Need-returns
-returns c = standing-made _ _ (c .before .before .before .before .before .before .args .item) _ _ _ (c .before .before .before .shape-of .ensures)
-    (c .before .code-of .ensures) (c .kind-of .ensures)
+returns c =
+    let s = c .before .before .before .before .before .before in
+    standing-made _ _ (s .args .item) _ _ _ (s .pre) (c .before .before .before .shape-of .ensures) (c .before .code-of .ensures) (c .kind-of .ensures)
 
 pub standing-in-spec : {M : Type 1} → statement M
 standing-in-spec =

@@ -2,10 +2,12 @@
 -- Assumes nothing.
 use mathlib.Core.Path.{sym}
 use native.Mathlib.Omega.{arith}
-use Prim.Native.Nat.{_-_}
-use lib.ListN.{drop, length-drop}
+use Prim.Native.Nat.{ℕ, _+_, _-_, _<_, _≤_}
+use mathlib.Core.List.{List}
+use lib.ListN.{length, drop, length-drop}
 use lib.Seq.{getD-drop, length-take-le}
 use borrow.Author.Needs.{needs}
+use Rattle.base.proofs.Cases.{byEq}
 use Rattle.base.proofs.Putting.{Copying, copy-start, copy-next, copy-done, all-wrote}
 use Rattle.writer.proofs.copy.Statement.{statement}
 use Rattle.writer.proofs.copy.Tie as tie
@@ -16,14 +18,22 @@ Inv-loop out₀ at buffer place size i₀ out i = Copying out₀ at (drop place 
 abbrev μ-loop : tie.MeasureT-loop
 μ-loop out₀ at buffer place size i₀ out i = size - i
 
+-- so many bytes are there, from the place on
+within : (b : List ℕ) (place size : ℕ) → (0 < size → place + size ≤ length b) → size ≤ length (drop place b)
+within b place size inside = rw length-drop (byEq size 0 (λ z. omega arith) (λ some. omega (arith, inside (omega arith))))
+
 loop-holds : tie.Need-loop-holds Inv-loop μ-loop
-loop-holds c = copy-start (c .pre .0) (rw length-drop (omega arith))
+loop-holds c = copy-start (c .pre .0) (within (c .args .buffer .now) (c .args .place) (c .args .size) (c .pre .1))
 
 add-out : tie.Need-add-out Inv-loop μ-loop
-add-out c = search needs
+add-out c =
+    let more = c .loop-test .taken in
+    omega (arith, c .before .before .pre .1 (omega arith), more, c .before .before .good)
 
 shared-slice-read-out : tie.Need-shared-slice-read-out Inv-loop μ-loop
-shared-slice-read-out c = omega (arith, c .before .before .before .pre .1, c .before .loop-test .taken)
+shared-slice-read-out c =
+    let more = c .before .loop-test .taken in
+    omega (arith, c .before .before .before .pre .1 (omega arith), more)
 
 add-out-2 : tie.Need-add-out-2 Inv-loop μ-loop
 add-out-2 c = search needs

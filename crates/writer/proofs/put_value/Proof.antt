@@ -13,7 +13,7 @@ put-number-requires c κs = search needs
 copy-requires : tie.Need-copy-requires
 copy-requires c κs =
     let s = c .before .before .before .before .before in
-    (s .pre .1, s .pre .0 .inside (c .before .if1 .left))
+    (s .pre .1, λ some. s .pre .0 .inside (c .before .if1 .left) some)
 
 same-length : tie.Need-same-length
 same-length c = search needs

@@ -33,10 +33,10 @@ tablePieces b count words = piecesSaid b (rowsIn 0 count words)
 abbrev pub tableBytes : List ℕ → ℕ → List ℕ → List ℕ
 tableBytes b count words = itemsBytes (tablePieces b count words)
 
--- a row that can be put: it has a tag, and what it points at lies in the buffer
+-- a row that can be put: it has a tag, and what it points at lies in the buffer, if it points at anything (W-204: a withdrawn row does not)
 pub record CanPut (b : List ℕ) (r : RowWords) : Type 0 where
   pub tagged : 0 < r .tag
-  pub inside : textKind ≤ r .kind → partPlace (r .part) + partLength (r .part) ≤ length b
+  pub inside : textKind ≤ r .kind → 0 < partLength (r .part) → partPlace (r .part) + partLength (r .part) ≤ length b
 
 -- such rows in lent words
 pub record Rows (b : List ℕ) (count : ℕ) (words : List ℕ) : Type 0 where
