@@ -3,7 +3,7 @@
 use Prim.Native.Nat.{ℕ, _+_, _/_, _%_, _<_, _≤_}
 use native.Mathlib.Omega.{arith}
 use mathlib.Core.Path.{_≡_, refl, ap, sym, _∙_}
-use mathlib.Core.Bool.{Bool, true, false, not, cond, _&&_, _||_, or-true, Bool·beq}
+use mathlib.Core.Bool.{Bool, true, false, not, _&&_, _||_, or-true, Bool·beq}
 use lib.Bits.{bitAnd, and-mask}
 use lib.Dec.{ltb, leb, eqb}
 use lib.ListN.{getD}

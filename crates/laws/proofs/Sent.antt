@@ -9,7 +9,6 @@ use mathlib.Core.List.{List, [], _∷_}
 use lib.ListN.{length, take, drop}
 use lib.Seq.{take-at, drop-drop}
 use lib.Arith.{digits-div, digits-mod}
-use borrow.Author.Tests.{eqb-true}
 use Rattle.base.proofs.Cases.{byBool, byEq, clash}
 use Rattle.base.specs.Every.{Each}
 use Rattle.refusal.specs.Answer.{given}

@@ -10,7 +10,6 @@ use Rattle.knowing.proofs.Laws.{good-means}
 use Rattle.packet.specs.code.Passing.{setOf, SeenAt, TwoWords, noted, keptBy, passedWith, Going}
 use Rattle.packet.proofs.Noting.{two-set}
 use Rattle.packet.proofs.Passing.{noted-none, going-begin, going-glance, glanced-tag, glanced-place, glanced-on}
-use borrow.Author.Needs.{needs}
 use Rattle.packet.proofs.pass_plain.Statement.{statement}
 use Rattle.packet.proofs.pass_plain.Tie as tie
 
