@@ -10,15 +10,15 @@ use borrow.Author.Tests.{le-leb, lt-leb, lt-ltb, le-ltb, eq-eqb, ne_eqb, ltb-tru
 
 pub ruleset cases = (rules, le-leb, lt-leb, lt-ltb, le-ltb, eq-eqb, ne_eqb)
 
-pub byBool {ℓ} : {C : Type ℓ} (b : Bool) → (b ≡ true → C) → (b ≡ false → C) → C
-byBool true f g = f refl
-byBool false f g = g refl
+pub by_bool {ℓ} : {C : Type ℓ} (b : Bool) → (b ≡ true → C) → (b ≡ false → C) → C
+by_bool true f g = f refl
+by_bool false f g = g refl
 
-pub byLt {ℓ} : {C : Type ℓ} (a b : ℕ) → (a < b → C) → (b ≤ a → C) → C
-byLt a b f g = byBool (ltb a b) (λ e. f (ltb-true a b e)) (λ e. g (ltb-false a b e))
+pub by_lt {ℓ} : {C : Type ℓ} (a b : ℕ) → (a < b → C) → (b ≤ a → C) → C
+by_lt a b f g = by_bool (ltb a b) (λ e. f (ltb-true a b e)) (λ e. g (ltb-false a b e))
 
-pub byEq {ℓ} : {C : Type ℓ} (a b : ℕ) → (a ≡ b → C) → ((a ≡ b → ⊥) → C) → C
-byEq a b f g = byBool (eqb a b) (λ e. f (eqb-true a b e)) (λ e. g (eqb-false a b e))
+pub by_eq {ℓ} : {C : Type ℓ} (a b : ℕ) → (a ≡ b → C) → ((a ≡ b → ⊥) → C) → C
+by_eq a b f g = by_bool (eqb a b) (λ e. f (eqb-true a b e)) (λ e. g (eqb-false a b e))
 
 -- two tests that pass together are equal
 pub same_test : (a b : Bool) → (a ≡ true → b ≡ true) → (b ≡ true → a ≡ true) → a ≡ b
@@ -39,6 +39,6 @@ pub unless : (a b : Bool) → not a || b ≡ true → a ≡ true → b ≡ true
 unless true b e f = e
 unless false b e f = clash (sym f)
 
-pub unless-true : (a b : Bool) → (a ≡ true → b ≡ true) → not a || b ≡ true
-unless-true true b f = f refl
-unless-true false b f = refl
+pub unless_true : (a b : Bool) → (a ≡ true → b ≡ true) → not a || b ≡ true
+unless_true true b f = f refl
+unless_true false b f = refl

@@ -9,23 +9,23 @@ use lib.ListN.{length, get_or, take, drop, set, length-drop, drop_of_length-le}
 use lib.Seq.{take_all, drop-cons, take-suc, set_at, length-take-le}
 
 module _ (l : List ℕ) (at : ℕ) where
-  pub cons-at : at < length l → drop at l ≡ get_or l at 0 ∷ drop (at + 1) l
-  cons-at h = rw (add-one, drop-cons l at 0)
+  pub cons_at : at < length l → drop at l ≡ get_or l at 0 ∷ drop (at + 1) l
+  cons_at h = rw (add-one, drop-cons l at 0)
 
   -- with the byte as the code has it
   pub byte_at : {b : ℕ} → b ≡ get_or l at 0 → at < length l → drop at l ≡ b ∷ drop (at + 1) l
-  byte_at e h = rw e (cons-at h)
+  byte_at e h = rw e (cons_at h)
 
   -- a part that goes to the end, as code lends it
   pub to_the_end : take (length l - at) (drop at l) ≡ drop at l
   to_the_end = take_all (length l - at) (drop at l) (rw length-drop (omega arith))
 
   -- a part of it
-  pub part-lent : (n : ℕ) → take (at + n - at) (drop at l) ≡ take n (drop at l)
-  part-lent n = let k : at + n - at ≡ n = omega arith in rw k
+  pub part_lent : (n : ℕ) → take (at + n - at) (drop at l) ≡ take n (drop at l)
+  part_lent n = let k : at + n - at ≡ n = omega arith in rw k
 
-  pub nil-at : length l ≤ at → drop at l ≡ []
-  nil-at h = drop_of_length-le l h
+  pub nil_at : length l ≤ at → drop at l ≡ []
+  nil_at h = drop_of_length-le l h
 
 -- a list filled from its end: q is there already, and b comes before it
 pub set_before : (l q : List ℕ) (i b : ℕ) → i < length l → set (take (i + 1) l ++ q) i b ≡ take i l ++ (b ∷ q)

@@ -40,7 +40,7 @@ module _ {M : Type 1} {𝓤 : Ura M} {𝓛 : Logic 𝓤} {K : Type 0} {Γ : List
     {f : Name} {xs : List Operand} {Λ : Loops 𝓤 𝓛.H} {q : Post 𝓤 𝓛.H} {d : Place} {rest : Body} where
   open 𝓛 use {H}
 
-  pub calls-told : K → FmC 𝓤 H 𝓛.laws C → (T : Ended) (c : Clauses 𝓤 T) → Triple 𝓤 (C f) (triple_of 𝓛 T.signature (closing 𝓛 T c))
+  pub calls_told : K → FmC 𝓤 H 𝓛.laws C → (T : Ended) (c : Clauses 𝓤 T) → Triple 𝓤 (C f) (triple_of 𝓛 T.signature (closing 𝓛 T c))
       → (x : Bound 𝓛 T.signature) (g : (c x.0 x.3).ghost) (t : Item 𝓤) → ent 𝓤 (alive 𝓛 T.signature x.0 x.1) (mean 𝓛 t)
       → (φ : Res T.signature x.0 → Lasts T x.0 x.3 → Type 0)
       → ((r : Res T.signature x.0) (ws : Lasts T x.0 x.3)
@@ -50,7 +50,7 @@ module _ {M : Type 1} {𝓤 : Ura M} {𝓛 : Logic 𝓤} {K : Type 0} {Γ : List
       → ((v : Val) (r : Res T.signature x.0) (ws : Lasts T x.0 x.3) → φ r ws → Is (type_at T.signature.result x.0) r (v ∷ [])
       → Seq K 𝓛 (‵ ((type_at T.signature.result x.0).own_val r (v ∷ [])) ∷ t ∷ ‵ (lasts T x.0 x.3 ws) ∷ Γ) (lands C Λ E d v rest q))
       → Seq K 𝓛 (raw ((triple_of 𝓛 T.signature (closing 𝓛 T c)).pre (x, g)) ∷ Γ) (runs C Λ E (seq (call f xs d) rest) q)
-  calls-told k fm T c met x g t tok φ said os next =
+  calls_told k fm T c met x g t tok φ said os next =
       let S = T.signature in
       let R = type_at S.result x.0 in
       calls_at k fm (triple_of 𝓛 S (closing 𝓛 T c)) met (x, g) os (λ v.
@@ -62,7 +62,7 @@ module _ {M : Type 1} {𝓤 : Ura M} {𝓛 : Logic 𝓤} {K : Type 0} {Γ : List
       move k (1 ∷ []) $ split k $ use1 𝓛 t tok $ move k (1 ∷ []) $ peeks k R (Is R) (shows 𝓛 R) r (v ∷ []) (λ is. next v r ws e is)))))
 
   -- the same where no memory is lent to be written, and nothing of what the result owns is needed
-  pub calls-said : K → FmC 𝓤 H 𝓛.laws C → (T : Ended) (c : Clauses 𝓤 T) → Triple 𝓤 (C f) (triple_of 𝓛 T.signature (closing 𝓛 T c))
+  pub calls_said : K → FmC 𝓤 H 𝓛.laws C → (T : Ended) (c : Clauses 𝓤 T) → Triple 𝓤 (C f) (triple_of 𝓛 T.signature (closing 𝓛 T c))
       → (x : Bound 𝓛 T.signature) (g : (c x.0 x.3).ghost) (t : Item 𝓤) → ent 𝓤 (alive 𝓛 T.signature x.0 x.1) (mean 𝓛 t)
       → (φ : Res T.signature x.0 → Type 0)
       → ((r : Res T.signature x.0) (ws : Lasts T x.0 x.3)
@@ -71,8 +71,8 @@ module _ {M : Type 1} {𝓤 : Ura M} {𝓛 : Logic 𝓤} {K : Type 0} {Γ : List
       ((triple_of 𝓛 T.signature (closing 𝓛 T c)).args (x, g))
       → ((v : Val) (r : Res T.signature x.0) → φ r → Is (type_at T.signature.result x.0) r (v ∷ []) → Seq K 𝓛 (t ∷ Γ) (lands C Λ E d v rest q))
       → Seq K 𝓛 (raw ((triple_of 𝓛 T.signature (closing 𝓛 T c)).pre (x, g)) ∷ Γ) (runs C Λ E (seq (call f xs d) rest) q)
-  calls-said k fm T c met x g t tok φ said os next =
-      calls-told k fm T c met x g t tok (λ r ws. φ r) said os (λ v r ws e is. drop k $ move k (1 ∷ []) $ drop k $ next v r e is)
+  calls_said k fm T c met x g t tok φ said os next =
+      calls_told k fm T c met x g t tok (λ r ws. φ r) said os (λ v r ws e is. drop k $ move k (1 ∷ []) $ drop k $ next v r e is)
 
 -- a local as an operand: entry n of the context is what it holds
 pub local : {M : Type 1} {𝓤 : Ura M} {𝓛 : Logic 𝓤} {K : Type 0} {Γ : List (Item 𝓤)} {E : Env 𝓤 𝓛.H} → K
@@ -153,8 +153,8 @@ pub fails : (t : Bool) → (Holds t → ⊥) → t ≡ false
 fails true f = absurd (f tt)
 fails false _ = refl
 
-pub one_more : (i : ℕ) → i + 1 ≡ suc i
-one_more i = add-suc i zero ∙ ap suc (add-zero i)
+pub one-more : (i : ℕ) → i + 1 ≡ suc i
+one-more i = add-suc i zero ∙ ap suc (add-zero i)
 
 -- a loop that counts from 0 to n, over a state S that a fact is kept of
 module _ {M : Type 1} {𝓤 : Ura M} (𝓛 : Logic 𝓤) (𝓣 : Tables 𝓤 𝓛.H) (E : Env 𝓤 𝓛.H) (turn : Body) (Left : Out → SProp 𝓤) (n : ℕ)

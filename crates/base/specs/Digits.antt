@@ -2,6 +2,6 @@
 use Rattle.std.specs.Prelude.{ℕ, zero, suc, ◌/◌, ◌%◌, ◌^◌, List, [], ◌∷◌}
 
 -- the k lowest digits of x, each shown as a byte
-abbrev pub digitsIn : ℕ → (ℕ → ℕ) → ℕ → ℕ → List ℕ
-digitsIn base shown zero x = []
-digitsIn base shown (suc k) x = shown (x / base ^ k % base) ∷ digitsIn base shown k x
+abbrev pub digits_in : ℕ → (ℕ → ℕ) → ℕ → ℕ → List ℕ
+digits_in base shown zero x = []
+digits_in base shown (suc k) x = shown (x / base ^ k % base) ∷ digits_in base shown k x

@@ -4,7 +4,7 @@ use Prim.Native.Nat.{ℕ}
 use mathlib.Core.Path.{sym, ◌∙◌}
 use mathlib.Core.List.{List}
 use Rattle.base.specs.Determined.{Determined, Answered}
-use Rattle.base.proofs.Putting.{puts-once}
+use Rattle.base.proofs.Putting.{puts_once}
 use Rattle.ber.proofs.Laws.{seen_apart}
 use Rattle.ber.proofs.tag_at.Kinds as tag-at-kinds
 use Rattle.ber.proofs.tag_at.Reads as tag-at-reads
@@ -19,20 +19,20 @@ use Rattle.ber.proofs.put_tag.Reads as put-tag-reads
 use Rattle.ber.proofs.put_length.Kinds as put-length-kinds
 use Rattle.ber.proofs.put_length.Reads as put-length-reads
 
-pub tag-at-determined : Answered 1 tag-at-kinds.ps tag-at-kinds.r tag-at-reads.Post
-tag-at-determined κs a z z' e e' p q = seen_apart z z' (p ∙ sym q)
+pub tag_at_determined : Answered 1 tag-at-kinds.ps tag-at-kinds.r tag-at-reads.Post
+tag_at_determined κs a z z' e e' p q = seen_apart z z' (p ∙ sym q)
 
-pub length-at-determined : Answered 1 length-at-kinds.ps length-at-kinds.r length-at-reads.Post
-length-at-determined κs a z z' e e' p q = seen_apart z z' (p ∙ sym q)
+pub length_at_determined : Answered 1 length-at-kinds.ps length-at-kinds.r length-at-reads.Post
+length_at_determined κs a z z' e e' p q = seen_apart z z' (p ∙ sym q)
 
-pub tag-size-determined : Answered 0 tag-size-kinds.ps tag-size-kinds.r tag-size-reads.Post
-tag-size-determined κs a z z' e e' p q = p ∙ sym q
+pub tag_size_determined : Answered 0 tag-size-kinds.ps tag-size-kinds.r tag-size-reads.Post
+tag_size_determined κs a z z' e e' p q = p ∙ sym q
 
-pub length-size-determined : Answered 0 length-size-kinds.ps length-size-kinds.r length-size-reads.Post
-length-size-determined κs a z z' e e' p q = p ∙ sym q
+pub length_size_determined : Answered 0 length-size-kinds.ps length-size-kinds.r length-size-reads.Post
+length_size_determined κs a z z' e e' p q = p ∙ sym q
 
-pub put-tag-determined : Determined 1 put-tag-kinds.ps put-tag-kinds.r put-tag-reads.Post (List ℕ) (λ κs e. e.0.now)
-put-tag-determined κs a z z' e e' p q = puts-once p q
+pub put_tag_determined : Determined 1 put-tag-kinds.ps put-tag-kinds.r put-tag-reads.Post (List ℕ) (λ κs e. e.0.now)
+put_tag_determined κs a z z' e e' p q = puts_once p q
 
-pub put-length-determined : Determined 1 put-length-kinds.ps put-length-kinds.r put-length-reads.Post (List ℕ) (λ κs e. e.0.now)
-put-length-determined κs a z z' e e' p q = puts-once p q
+pub put_length_determined : Determined 1 put-length-kinds.ps put-length-kinds.r put-length-reads.Post (List ℕ) (λ κs e. e.0.now)
+put_length_determined κs a z z' e e' p q = puts_once p q

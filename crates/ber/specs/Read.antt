@@ -9,22 +9,22 @@ pub data Read : Type 0 where
 
 -- "A tag has 7 bits a byte, highest first, the top bit saying that another follows; at most 3 bytes;
 -- it may not begin with 0x80 and may not be 0." `high` is what the bytes before say.
-unfoldable pub tagThird : ℕ → List ℕ → Read
-tagThird high [] = broken
-tagThird high (c ∷ l) = cond (ltb c 128) (got (high * 128 + c) 3) broken
+unfoldable pub tag_third : ℕ → List ℕ → Read
+tag_third high [] = broken
+tag_third high (c ∷ l) = cond (ltb c 128) (got (high * 128 + c) 3) broken
 
-unfoldable pub tagSecond : ℕ → List ℕ → Read
-tagSecond high [] = broken
-tagSecond high (b ∷ l) = cond (ltb b 128) (got (high * 128 + b) 2) (tagThird (high * 128 + (b - 128)) l)
+unfoldable pub tag_second : ℕ → List ℕ → Read
+tag_second high [] = broken
+tag_second high (b ∷ l) = cond (ltb b 128) (got (high * 128 + b) 2) (tag_third (high * 128 + (b - 128)) l)
 
-unfoldable pub readTag : List ℕ → Read
-readTag [] = broken
-readTag (a ∷ l) = cond (ltb a 128) (cond (ltb 0 a) (got a 1) broken) (cond (leb a 128) broken (tagSecond (a - 128) l))
+unfoldable pub read_tag : List ℕ → Read
+read_tag [] = broken
+read_tag (a ∷ l) = cond (ltb a 128) (cond (ltb 0 a) (got a 1) broken) (cond (leb a 128) broken (tag_second (a - 128) l))
 
 -- "below 128 in one byte, or a byte 0x81 to 0x84 followed by 1 to 4 bytes, highest first. 0x80 and 0x85 to 0xFF are refused."
-unfoldable pub readLength : List ℕ → Read
-readLength [] = broken
-readLength (a ∷ l) =
+unfoldable pub read_length : List ℕ → Read
+read_length [] = broken
+read_length (a ∷ l) =
     cond (ltb a 128) (got a 1)
     (cond (leb a 128) broken
     (cond (ltb 132 a) broken

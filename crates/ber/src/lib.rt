@@ -2,9 +2,9 @@
 // Every slice and every place gets an answer; a tag has one form, a length is put in its shortest, and what was put reads back.
 ghost use Rattle.std.specs.Prelude.{◌≡◌, ◌+◌, ◌<◌, ◌≤◌, [], ◌∷◌, length, take, drop};
 ghost use Rattle.number.specs.Stored.{value_of, bytes_of};
-ghost use Rattle.ber.specs.Read.{readTag, tagSecond, tagThird, readLength};
+ghost use Rattle.ber.specs.Read.{read_tag, tag_second, tag_third, read_length};
 ghost use Rattle.base.specs.Putting.{Puts};
-ghost use Rattle.ber.specs.Written.{tagBytes, lengthBytes};
+ghost use Rattle.ber.specs.Written.{tag_bytes, length_bytes};
 ghost use Rattle.ber.specs.Seen.{seen};
 
 // What stands at a place: a number and how many bytes it takes, or nothing that may stand there, cut or forbidden.
@@ -15,7 +15,7 @@ pub enum Field {
 }
 
 pub fn tag_at(s: &[u8], at: usize) -> Field
-    ensures { seen result ≡ readTag (drop at s.now) }
+    ensures { seen result ≡ read_tag (drop at s.now) }
 {
     if s.len() <= at {
         return Field::Broken;
@@ -36,7 +36,7 @@ pub fn tag_at(s: &[u8], at: usize) -> Field
 // The second byte, where the first says high.
 fn tag_second_at(s: &[u8], at: usize, high: u64) -> Field
     requires { high < 128 }
-    ensures { seen result ≡ tagSecond high (drop at s.now) }
+    ensures { seen result ≡ tag_second high (drop at s.now) }
 {
     if s.len() <= at {
         return Field::Broken;
@@ -54,7 +54,7 @@ fn tag_second_at(s: &[u8], at: usize, high: u64) -> Field
 // The third byte, which must be the last, where the two before say high.
 fn tag_third_at(s: &[u8], at: usize, high: u64) -> Field
     requires { high < 16384 }
-    ensures { seen result ≡ tagThird high (drop at s.now) }
+    ensures { seen result ≡ tag_third high (drop at s.now) }
 {
     if s.len() <= at {
         return Field::Broken;
@@ -90,7 +90,7 @@ fn few_at(s: &[u8], at: usize, count: usize) -> u64
 }
 
 pub fn length_at(s: &[u8], at: usize) -> Field
-    ensures { seen result ≡ readLength (drop at s.now) }
+    ensures { seen result ≡ read_length (drop at s.now) }
 {
     if s.len() <= at {
         return Field::Broken;
@@ -124,7 +124,7 @@ struct Form {
 }
 
 fn tag_form(tag: u64) -> Form
-    ensures { bytes_of result.size result.code ≡ tagBytes tag }
+    ensures { bytes_of result.size result.code ≡ tag_bytes tag }
 {
     if tag == 0 {
         return Form { size: 0, code: 0 };
@@ -152,7 +152,7 @@ fn tag_form(tag: u64) -> Form
 }
 
 fn length_form(x: u64) -> Form
-    ensures { bytes_of result.size result.code ≡ lengthBytes x }
+    ensures { bytes_of result.size result.code ≡ length_bytes x }
 {
     if x < 128 {
         return Form { size: 1, code: x };
@@ -216,21 +216,21 @@ fn put_short(out: &mut [u8], at: usize, x: u64) -> usize
 
 // How many bytes a tag takes: 0 where it has no form.
 pub fn tag_size(tag: u64) -> usize
-    ensures { result ≡ length (tagBytes tag) }
+    ensures { result ≡ length (tag_bytes tag) }
 {
     tag_form(tag).size
 }
 
 // How many bytes a length takes in its shortest form: 0 where it has no form.
 pub fn length_size(x: u64) -> usize
-    ensures { result ≡ length (lengthBytes x) }
+    ensures { result ≡ length (length_bytes x) }
 {
     length_form(x).size
 }
 
 // Puts a tag at a place, and answers how many bytes: none, and nothing is changed, where it has no form or there is no room.
 pub fn put_tag(out: &mut [u8], at: usize, tag: u64) -> usize
-    ensures { Puts out.old at (tagBytes tag) result out.new }
+    ensures { Puts out.old at (tag_bytes tag) result out.new }
 {
     if 0 < tag {
         if tag < 128 {
@@ -242,7 +242,7 @@ pub fn put_tag(out: &mut [u8], at: usize, tag: u64) -> usize
 
 // Puts a length in its shortest form, in the same way.
 pub fn put_length(out: &mut [u8], at: usize, x: u64) -> usize
-    ensures { Puts out.old at (lengthBytes x) result out.new }
+    ensures { Puts out.old at (length_bytes x) result out.new }
 {
     if x < 128 {
         return put_short(out, at, x);

@@ -27,38 +27,38 @@ use Rattle.catalogue.proofs.limits_codes.Reads as limits-codes-reads
 use Rattle.catalogue.proofs.allows_code.Kinds as allows-code-kinds
 use Rattle.catalogue.proofs.allows_code.Reads as allows-code-reads
 
-pub all-tags-determined : Answered 0 all-tags-kinds.ps all-tags-kinds.r all-tags-reads.Post
-all-tags-determined κs a z z' e e' p q = p ∙ sym q
+pub all_tags_determined : Answered 0 all-tags-kinds.ps all-tags-kinds.r all-tags-reads.Post
+all_tags_determined κs a z z' e e' p q = p ∙ sym q
 
-pub shapes-determined : Answered 0 shapes-kinds.ps shapes-kinds.r shapes-reads.Post
-shapes-determined κs a z z' e e' p q = p ∙ sym q
+pub shapes_determined : Answered 0 shapes-kinds.ps shapes-kinds.r shapes-reads.Post
+shapes_determined κs a z z' e e' p q = p ∙ sym q
 
-pub length-masks-determined : Answered 0 length-masks-kinds.ps length-masks-kinds.r length-masks-reads.Post
-length-masks-determined κs a z z' e e' p q = p ∙ sym q
+pub length_masks_determined : Answered 0 length-masks-kinds.ps length-masks-kinds.r length-masks-reads.Post
+length_masks_determined κs a z z' e e' p q = p ∙ sym q
 
-pub shape-at-determined : Answered 1 shape-at-kinds.ps shape-at-kinds.r shape-at-reads.Post
-shape-at-determined κs a z z' e e' p q = p ∙ sym q
+pub shape_at_determined : Answered 1 shape-at-kinds.ps shape-at-kinds.r shape-at-reads.Post
+shape_at_determined κs a z z' e e' p q = p ∙ sym q
 
-pub allows-length-determined : Answered 0 allows-length-kinds.ps allows-length-kinds.r allows-length-reads.Post
-allows-length-determined κs a z z' e e' p q = p ∙ sym q
+pub allows_length_determined : Answered 0 allows-length-kinds.ps allows-length-kinds.r allows-length-reads.Post
+allows_length_determined κs a z z' e e' p q = p ∙ sym q
 
-pub is-empty-determined : Answered 0 is-empty-kinds.ps is-empty-kinds.r is-empty-reads.Post
-is-empty-determined κs a z z' e e' p q = p ∙ sym q
+pub is_empty_determined : Answered 0 is-empty-kinds.ps is-empty-kinds.r is-empty-reads.Post
+is_empty_determined κs a z z' e e' p q = p ∙ sym q
 
-pub is-needed-determined : Answered 0 is-needed-kinds.ps is-needed-kinds.r is-needed-reads.Post
-is-needed-determined κs a z z' e e' p q = p ∙ sym q
+pub is_needed_determined : Answered 0 is-needed-kinds.ps is-needed-kinds.r is-needed-reads.Post
+is_needed_determined κs a z z' e e' p q = p ∙ sym q
 
-pub allows-size-determined : Answered 0 allows-size-kinds.ps allows-size-kinds.r allows-size-reads.Post
-allows-size-determined κs a z z' e e' p q = p ∙ sym q
+pub allows_size_determined : Answered 0 allows-size-kinds.ps allows-size-kinds.r allows-size-reads.Post
+allows_size_determined κs a z z' e e' p q = p ∙ sym q
 
-pub allows-code-determined : Answered 0 allows-code-kinds.ps allows-code-kinds.r allows-code-reads.Post
-allows-code-determined κs a z z' e e' p q = p ∙ sym q
+pub allows_code_determined : Answered 0 allows-code-kinds.ps allows-code-kinds.r allows-code-reads.Post
+allows_code_determined κs a z z' e e' p q = p ∙ sym q
 
-pub limits-codes-determined : Answered 0 limits-codes-kinds.ps limits-codes-kinds.r limits-codes-reads.Post
-limits-codes-determined κs a z z' e e' p q = p ∙ sym q
+pub limits_codes_determined : Answered 0 limits-codes-kinds.ps limits-codes-kinds.r limits-codes-reads.Post
+limits_codes_determined κs a z z' e e' p q = p ∙ sym q
 
-pub is-extended-determined : Answered 0 is-extended-kinds.ps is-extended-kinds.r is-extended-reads.Post
-is-extended-determined κs a z z' e e' p q = p ∙ sym q
+pub is_extended_determined : Answered 0 is-extended-kinds.ps is-extended-kinds.r is-extended-reads.Post
+is_extended_determined κs a z z' e e' p q = p ∙ sym q
 
-pub is-in-reach-determined : Answered 0 is-in-reach-kinds.ps is-in-reach-kinds.r is-in-reach-reads.Post
-is-in-reach-determined κs a z z' e e' p q = p ∙ sym q
+pub is_in_reach_determined : Answered 0 is-in-reach-kinds.ps is-in-reach-kinds.r is-in-reach-reads.Post
+is_in_reach_determined κs a z z' e e' p q = p ∙ sym q

@@ -13,65 +13,65 @@ use Rattle.catalogue.specs.declared.Item.{Item}
 use Rattle.catalogue.specs.declared.Found.{Found}
 use Rattle.catalogue.specs.declared.Found.TheVariants.{Known, Absent}
 
-abbrev pub sameWhole : ℤ → ℤ → Bool
-sameWhole (pos m) (pos n) = eqb m n
-sameWhole (pos m) (negsuc n) = false
-sameWhole (negsuc m) (pos n) = false
-sameWhole (negsuc m) (negsuc n) = eqb m n
+abbrev pub same_whole : ℤ → ℤ → Bool
+same_whole (pos m) (pos n) = eqb m n
+same_whole (pos m) (negsuc n) = false
+same_whole (negsuc m) (pos n) = false
+same_whole (negsuc m) (negsuc n) = eqb m n
 
-pub same_whole : (a b : ℤ) → sameWhole a b ≡ true → a ≡ b
-same_whole (pos m) (pos n) e = ap pos (eqb-true m n e)
-same_whole (pos m) (negsuc n) e = clash (sym e)
-same_whole (negsuc m) (pos n) e = clash (sym e)
-same_whole (negsuc m) (negsuc n) e = ap negsuc (eqb-true m n e)
+pub same-whole : (a b : ℤ) → same_whole a b ≡ true → a ≡ b
+same-whole (pos m) (pos n) e = ap pos (eqb-true m n e)
+same-whole (pos m) (negsuc n) e = clash (sym e)
+same-whole (negsuc m) (pos n) e = clash (sym e)
+same-whole (negsuc m) (negsuc n) e = ap negsuc (eqb-true m n e)
 
-abbrev pub sameSign : Sign → Sign → Bool
-sameSign Unsigned Unsigned = true
-sameSign Unsigned Signed = false
-sameSign Unsigned Marked = false
-sameSign Signed Unsigned = false
-sameSign Signed Signed = true
-sameSign Signed Marked = false
-sameSign Marked Unsigned = false
-sameSign Marked Signed = false
-sameSign Marked Marked = true
+abbrev pub same_sign : Sign → Sign → Bool
+same_sign Unsigned Unsigned = true
+same_sign Unsigned Signed = false
+same_sign Unsigned Marked = false
+same_sign Signed Unsigned = false
+same_sign Signed Signed = true
+same_sign Signed Marked = false
+same_sign Marked Unsigned = false
+same_sign Marked Signed = false
+same_sign Marked Marked = true
 
-pub same_sign : (a b : Sign) → sameSign a b ≡ true → a ≡ b
-same_sign Unsigned Unsigned e = refl
-same_sign Unsigned Signed e = clash (sym e)
-same_sign Unsigned Marked e = clash (sym e)
-same_sign Signed Unsigned e = clash (sym e)
-same_sign Signed Signed e = refl
-same_sign Signed Marked e = clash (sym e)
-same_sign Marked Unsigned e = clash (sym e)
-same_sign Marked Signed e = clash (sym e)
-same_sign Marked Marked e = refl
+pub same-sign : (a b : Sign) → same_sign a b ≡ true → a ≡ b
+same-sign Unsigned Unsigned e = refl
+same-sign Unsigned Signed e = clash (sym e)
+same-sign Unsigned Marked e = clash (sym e)
+same-sign Signed Unsigned e = clash (sym e)
+same-sign Signed Signed e = refl
+same-sign Signed Marked e = clash (sym e)
+same-sign Marked Unsigned e = clash (sym e)
+same-sign Marked Signed e = clash (sym e)
+same-sign Marked Marked e = refl
 
-abbrev pub sameItem : Item → Item → Bool
-sameItem a b =
-    eqb a.tag b.tag && (eqb a.width b.width && (sameSign a.sign b.sign
-    && (sameWhole a.low b.low && sameWhole a.high b.high)))
+abbrev pub same_item : Item → Item → Bool
+same_item a b =
+    eqb a.tag b.tag && (eqb a.width b.width && (same_sign a.sign b.sign
+    && (same_whole a.low b.low && same_whole a.high b.high)))
 
-pub same_item : (a b : Item) → sameItem a b ≡ true → a ≡ b
-same_item a b e =
+pub same-item : (a b : Item) → same_item a b ≡ true → a ≡ b
+same-item a b e =
     let e₁ = both_right (eqb a.tag b.tag) _ e in
     let e₂ = both_right (eqb a.width b.width) _ e₁ in
-    let e₃ = both_right (sameSign a.sign b.sign) _ e₂ in
+    let e₃ = both_right (same_sign a.sign b.sign) _ e₂ in
     let tag = eqb-true a.tag b.tag (both_left (eqb a.tag b.tag) _ e) in
     let width = eqb-true a.width b.width (both_left (eqb a.width b.width) _ e₁) in
-    let sign = same_sign a.sign b.sign (both_left (sameSign a.sign b.sign) _ e₂) in
-    let low = same_whole a.low b.low (both_left (sameWhole a.low b.low) _ e₃) in
-    let high = same_whole a.high b.high (both_right (sameWhole a.low b.low) _ e₃) in
+    let sign = same-sign a.sign b.sign (both_left (same_sign a.sign b.sign) _ e₂) in
+    let low = same-whole a.low b.low (both_left (same_whole a.low b.low) _ e₃) in
+    let high = same-whole a.high b.high (both_right (same_whole a.low b.low) _ e₃) in
     λ i. record { tag = tag i; width = width i; sign = sign i; low = low i; high = high i }
 
-abbrev pub sameFound : Found → Found → Bool
-sameFound (Known a) (Known b) = sameItem a b
-sameFound (Known a) Absent = false
-sameFound Absent (Known b) = false
-sameFound Absent Absent = true
+abbrev pub same_found : Found → Found → Bool
+same_found (Known a) (Known b) = same_item a b
+same_found (Known a) Absent = false
+same_found Absent (Known b) = false
+same_found Absent Absent = true
 
-pub same-found : (a b : Found) → sameFound a b ≡ true → a ≡ b
-same-found (Known a) (Known b) e = ap Known (same_item a b e)
+pub same-found : (a b : Found) → same_found a b ≡ true → a ≡ b
+same-found (Known a) (Known b) e = ap Known (same-item a b e)
 same-found (Known a) Absent e = clash (sym e)
 same-found Absent (Known b) e = clash (sym e)
 same-found Absent Absent e = refl

@@ -9,28 +9,28 @@ abbrev pub in_block : ℕ → ℕ → ℕ → Bool
 in_block first last t = leb first t && leb t last
 
 -- the block of the offsets
-unfoldable pub isOffset : ℕ → Bool
-isOffset t = in_block 26 33 t
+unfoldable pub is_offset : ℕ → Bool
+is_offset t = in_block 26 33 t
 
 -- the block of the full corners
-unfoldable pub isFull : ℕ → Bool
-isFull t = in_block 82 89 t
+unfoldable pub is_full : ℕ → Bool
+is_full t = in_block 82 89 t
 
-unfoldable pub isCorner : ℕ → Bool
-isCorner t = isOffset t || isFull t
+unfoldable pub is_corner : ℕ → Bool
+is_corner t = is_offset t || is_full t
 
 -- the row of a signed number of so many bytes from -high to high
-abbrev bothWays : ℕ → ℕ → ℕ → Entry
-bothWays t width high = (t, width, true, neg_ℤ (pos high), pos high)
+abbrev both_ways : ℕ → ℕ → ℕ → Entry
+both_ways t width high = (t, width, true, neg_ℤ (pos high), pos high)
 
 -- an offset goes 0.075 degrees to either side, in latitude and in longitude
-abbrev pub offsetRow : ℕ → Entry
-offsetRow t = bothWays t 2 750000
+abbrev pub offset_row : ℕ → Entry
+offset_row t = both_ways t 2 750000
 
 -- "even is latitude, odd is longitude": 90 degrees to either side, or 180
-abbrev pub fullRow : ℕ → Entry
-fullRow t = bothWays t 4 (degrees (cond (eqb (t % 2) 0) 90 180))
+abbrev pub full_row : ℕ → Entry
+full_row t = both_ways t 4 (degrees (cond (eqb (t % 2) 0) 90 180))
 
 -- a corner's row
-unfoldable pub cornerRow : ℕ → Entry
-cornerRow t = cond (isOffset t) (offsetRow t) (fullRow t)
+unfoldable pub corner_row : ℕ → Entry
+corner_row t = cond (is_offset t) (offset_row t) (full_row t)

@@ -80,12 +80,12 @@ abbrev pub in_groups : {A : Type 0} → A → (Group → A) → List Group → �
 in_groups none say [] t = none
 in_groups none say (g ∷ gs) t = cond (member t g.tags) (say g) (in_groups none say gs t)
 
-unfoldable pub itemIn : List Group → ℕ → Found
-itemIn gs t = in_groups Absent (λ g. Known (record { tag = t; width = g.width; sign = g.sign; low = g.low; high = g.high })) gs t
+unfoldable pub item_in : List Group → ℕ → Found
+item_in gs t = in_groups Absent (λ g. Known (record { tag = t; width = g.width; sign = g.sign; low = g.low; high = g.high })) gs t
 
 -- what the catalogue has for a tag
-unfoldable pub itemOf : ℕ → Found
-itemOf t = itemIn groups t
+unfoldable pub item_of : ℕ → Found
+item_of t = item_in groups t
 
 -- what a tag's values count; nothing where the catalogue has no such tag
 unfoldable pub unit_of : ℕ → Unit

@@ -1,10 +1,10 @@
 // The catalogue: which items document 01 knows, how each is stored, and which lengths and codes it allows.
 // Every answer is that of document 01's groups, in constant time, for every tag of 64 bits.
 ghost use Rattle.std.specs.Prelude.{◌≡◌, ◌||◌, eqb, ltb};
-ghost use Rattle.catalogue.specs.Rows.{allTags};
-ghost use Rattle.catalogue.specs.Extended.{isExtended, inReach};
-ghost use Rattle.catalogue.specs.Shapes.{shapeAllows, is_empty, isNeeded, sizeAllowed, codesLimited, codeAllowed};
-ghost use Rattle.catalogue.specs.code.Column.{shapeColumn, maskColumn, shapeIn};
+ghost use Rattle.catalogue.specs.Rows.{all_tags};
+ghost use Rattle.catalogue.specs.Extended.{is_extended, in_reach};
+ghost use Rattle.catalogue.specs.Shapes.{shape_allows, is_empty, is_needed, size_allowed, codes_limited, code_allowed};
+ghost use Rattle.catalogue.specs.code.Column.{shape_column, mask_column, shape_in};
 
 use tagset::TagSet;
 
@@ -65,7 +65,7 @@ pub struct Entry(pub u64, pub usize, pub bool, pub i64, pub i64);
 
 // The tags of all rows.
 pub fn all_tags() -> TagSet
-    ensures { result ≡ allTags }
+    ensures { result ≡ all_tags }
 {
     TagSet {
         low: 0x8b80_00ff_ffff_fffe,
@@ -89,7 +89,7 @@ const COLUMN: [u8; 128] = *b"\
 
 // The shapes of all tags below 128, named once at the top and lent to `shape_at`.
 pub fn shapes() -> [u8; 128]
-    ensures { result ≡ shapeColumn }
+    ensures { result ≡ shape_column }
 {
     COLUMN
 }
@@ -110,7 +110,7 @@ const MASKS: [u8; 128] = *b"\
 
 // The masks of all tags below 128.
 pub fn length_masks() -> [u8; 128]
-    ensures { result ≡ maskColumn }
+    ensures { result ≡ mask_column }
 {
     MASKS
 }
@@ -118,7 +118,7 @@ pub fn length_masks() -> [u8; 128]
 // The shape that a column of shapes has for a tag. The lengths of an extended height go by its tag, so that all else is seen to have one; from 128
 // on there is none.
 pub fn shape_at(column: &[u8; 128], tag: u64) -> Shape
-    ensures { result ≡ shapeIn column.now tag }
+    ensures { result ≡ shape_in column.now tag }
 {
     if is_extended(tag) {
         return Shape::Number {
@@ -149,7 +149,7 @@ pub fn shape_at(column: &[u8; 128], tag: u64) -> Shape
 
 // Whether a value of this shape may have n bytes.
 pub fn allows_length(shape: Shape, n: usize) -> bool
-    ensures { result ≡ shapeAllows shape n }
+    ensures { result ≡ shape_allows shape n }
 {
     match shape {
         Shape::Text => {
@@ -196,7 +196,7 @@ pub fn is_empty(shape: Shape, n: usize) -> bool
 
 // Whether an item is one that no packet is without: these are never withdrawn.
 pub fn is_needed(tag: u64) -> bool
-    ensures { result ≡ isNeeded tag }
+    ensures { result ≡ is_needed tag }
 {
     match tag {
         1 => true,
@@ -208,7 +208,7 @@ pub fn is_needed(tag: u64) -> bool
 
 // Whether a known item may have n bytes: those of its shape, or none.
 pub fn allows_size(tag: u64, shape: Shape, n: usize) -> bool
-    ensures { result ≡ sizeAllowed tag shape n }
+    ensures { result ≡ size_allowed tag shape n }
 {
     if is_empty(shape, n) {
         return !is_needed(tag);
@@ -218,7 +218,7 @@ pub fn allows_size(tag: u64, shape: Shape, n: usize) -> bool
 
 // Whether a tag is that of an extended height.
 pub fn is_extended(tag: u64) -> bool
-    ensures { result ≡ isExtended tag }
+    ensures { result ≡ is_extended tag }
 {
     if 103 <= tag {
         return tag <= 105;
@@ -228,7 +228,7 @@ pub fn is_extended(tag: u64) -> bool
 
 // Whether an item takes only some of its codes.
 pub fn limits_codes(tag: u64) -> bool
-    ensures { result ≡ codesLimited tag }
+    ensures { result ≡ codes_limited tag }
 {
     if tag == 34 {
         return true;
@@ -241,7 +241,7 @@ pub fn limits_codes(tag: u64) -> bool
 
 // Whether an extended height of so many bytes may have a code: up to that of 40,000 m, which has more zeros the more bytes there are.
 pub fn is_in_reach(size: usize, code: u64) -> bool
-    ensures { result ≡ inReach size code }
+    ensures { result ≡ in_reach size code }
 {
     if 2 <= size {
         if size <= 4 {
@@ -264,7 +264,7 @@ fn is_under(limit: u64, size: usize, code: u64) -> bool
 // Whether an item may have a code: 34 goes from 0 to 2, 63 from 0 to 8, an extended height up to 40,000 m, and every other takes all; where there
 // are no bytes, no code is looked at.
 pub fn allows_code(tag: u64, size: usize, code: u64) -> bool
-    ensures { result ≡ codeAllowed tag size code }
+    ensures { result ≡ code_allowed tag size code }
 {
     // most tags are below 64, and are not asked whether they are extended heights
     if 63 < tag {

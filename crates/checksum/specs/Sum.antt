@@ -10,5 +10,5 @@ unfoldable pub weighed : ℕ → List ℕ → ℕ
 weighed place [] = 0
 weighed place (a ∷ l) = weight place * a + weighed (suc place) l
 
-abbrev pub checksumOf : List ℕ → ℕ
-checksumOf l = weighed 0 l % 65536
+abbrev pub checksum_of : List ℕ → ℕ
+checksum_of l = weighed 0 l % 65536

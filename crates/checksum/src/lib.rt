@@ -1,7 +1,7 @@
 // The checksum: the sixteen-bit running sum of the bytes, which drops its carries.
 // It is document 01's sum modulo 65,536, of any bytes.
 ghost use Rattle.std.specs.Prelude.{◌≡◌, ◌+◌, ◌*◌, ◌%◌, ◌<◌};
-ghost use Rattle.checksum.specs.Sum.{checksumOf, weighed};
+ghost use Rattle.checksum.specs.Sum.{checksum_of, weighed};
 
 // Two bytes as a number of sixteen bits.
 fn pair(high: u8, low: u8) -> u16
@@ -12,7 +12,7 @@ fn pair(high: u8, low: u8) -> u16
 
 // The checksum of all the bytes lent: the first one by itself, the rest from place 1 on.
 pub fn checksum(s: &[u8]) -> u16
-    ensures { result ≡ checksumOf s.now }
+    ensures { result ≡ checksum_of s.now }
 {
     if s.len() == 0 {
         return 0;

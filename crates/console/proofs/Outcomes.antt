@@ -7,8 +7,8 @@ use Rattle.console.proofs.digit.Reads as digit-reads
 use Rattle.console.proofs.word_of.Kinds as word-of-kinds
 use Rattle.console.proofs.word_of.Reads as word-of-reads
 
-pub digit-determined : Answered 0 digit-kinds.ps digit-kinds.r digit-reads.Post
-digit-determined κs a z z' e e' p q = p ∙ sym q
+pub digit_determined : Answered 0 digit-kinds.ps digit-kinds.r digit-reads.Post
+digit_determined κs a z z' e e' p q = p ∙ sym q
 
-pub word-of-determined : Answered 1 word-of-kinds.ps word-of-kinds.r word-of-reads.Post
-word-of-determined κs a z z' e e' p q = p ∙ sym q
+pub word_of_determined : Answered 1 word-of-kinds.ps word-of-kinds.r word-of-reads.Post
+word_of_determined κs a z z' e e' p q = p ∙ sym q

@@ -1,7 +1,7 @@
 // What the programs share: lines written to a file descriptor, and a word of hexadecimal digits read.
 // The functions that write have no contract beyond safety: none can say what is written.
 ghost use Rattle.std.specs.Prelude.{◌≡◌};
-ghost use Rattle.console.specs.Word.{digitOf, word_of};
+ghost use Rattle.console.specs.Word.{digit_of, word_of};
 
 use refusal::Refusal;
 
@@ -55,7 +55,7 @@ pub fn refused(to: i32, r: Refusal) {
 
 // What a hexadecimal digit stands for, and 16 for any other byte.
 pub fn digit(byte: u8) -> u64
-    ensures { result ≡ digitOf byte }
+    ensures { result ≡ digit_of byte }
 {
     let x = byte as u64;
     if x < 48 {

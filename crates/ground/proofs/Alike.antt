@@ -6,12 +6,12 @@ use mathlib.Core.Path.{◌≡◌, refl}
 use mathlib.Core.Bool.{true}
 use mathlib.Core.List.{[]}
 use lib.IntN.{pos, neg_ℤ}
-use Rattle.catalogue.specs.Items.{Group, groups, member, itemIn, itemOf}
+use Rattle.catalogue.specs.Items.{Group, groups, member, item_in, item_of}
 use Rattle.catalogue.specs.declared.Found.TheVariants.{Known}
 use Rattle.catalogue.specs.declared.Sign.TheVariants.{Unsigned, Marked}
 use Rattle.catalogue.specs.declared.Unit.TheVariants.{Degree, Metre}
 use Rattle.scale.specs.Scales.{scaled}
-use Rattle.ground.specs.code.Located.{itemWith, Like}
+use Rattle.ground.specs.code.Located.{item_with, Like}
 
 -- the groups, by their scales alone
 abbrev height : Group
@@ -29,73 +29,73 @@ longitude = signed 4 1800000000
 abbrev offset : Group
 offset = signed 2 750000
 
-alike : (t u : ℕ) (g : Group) → itemOf t ≡ Known (itemWith t g) → itemOf u ≡ Known (itemWith u g) → scaled (itemWith t g) ≡ true → Like t u g.width
+alike : (t u : ℕ) (g : Group) → item_of t ≡ Known (item_with t g) → item_of u ≡ Known (item_with u g) → scaled (item_with t g) ≡ true → Like t u g.width
 alike t u g e f s = record { group = g; one = e; other = f; wide = refl; scale = s }
 
 -- one of four
-by-four : (P : ℕ → Type 0) → P 1 → P 2 → P 3 → P 4 → (k : ℕ) → 0 < k → k < 5 → P k
-by-four P a b c d zero some few = absurd (omega arith)
-by-four P a b c d (suc zero) some few = a
-by-four P a b c d (suc (suc zero)) some few = b
-by-four P a b c d (suc (suc (suc zero))) some few = c
-by-four P a b c d (suc (suc (suc (suc zero)))) some few = d
-by-four P a b c d (suc (suc (suc (suc (suc n))))) some few = absurd (omega arith)
+by_four : (P : ℕ → Type 0) → P 1 → P 2 → P 3 → P 4 → (k : ℕ) → 0 < k → k < 5 → P k
+by_four P a b c d zero some few = absurd (omega arith)
+by_four P a b c d (suc zero) some few = a
+by_four P a b c d (suc (suc zero)) some few = b
+by_four P a b c d (suc (suc (suc zero))) some few = c
+by_four P a b c d (suc (suc (suc (suc zero)))) some few = d
+by_four P a b c d (suc (suc (suc (suc (suc n))))) some few = absurd (omega arith)
 
-pub like-15 : Like 15 15 2
-unfolding itemOf itemIn member groups
-like-15 = alike 15 15 height refl refl refl
+pub like_15 : Like 15 15 2
+unfolding item_of item_in member groups
+like_15 = alike 15 15 height refl refl refl
 
-pub like-25 : Like 25 15 2
-unfolding itemOf itemIn member groups
-like-25 = alike 25 15 height refl refl refl
+pub like_25 : Like 25 15 2
+unfolding item_of item_in member groups
+like_25 = alike 25 15 height refl refl refl
 
-pub like-75 : Like 75 15 2
-unfolding itemOf itemIn member groups
-like-75 = alike 75 15 height refl refl refl
+pub like_75 : Like 75 15 2
+unfolding item_of item_in member groups
+like_75 = alike 75 15 height refl refl refl
 
-pub like-78 : Like 78 15 2
-unfolding itemOf itemIn member groups
-like-78 = alike 78 15 height refl refl refl
+pub like_78 : Like 78 15 2
+unfolding item_of item_in member groups
+like_78 = alike 78 15 height refl refl refl
 
-pub like-23 : Like 23 23 4
-unfolding itemOf itemIn member groups
-like-23 = alike 23 23 latitude refl refl refl
+pub like_23 : Like 23 23 4
+unfolding item_of item_in member groups
+like_23 = alike 23 23 latitude refl refl refl
 
-pub like-24 : Like 24 24 4
-unfolding itemOf itemIn member groups
-like-24 = alike 24 24 longitude refl refl refl
+pub like_24 : Like 24 24 4
+unfolding item_of item_in member groups
+like_24 = alike 24 24 longitude refl refl refl
 
-pub like-latitude : (k : ℕ) → 0 < k → k < 5 → Like (80 + 2 * k) 23 4
-unfolding itemOf itemIn member groups
-like-latitude =
-    by-four (λ k. Like (80 + 2 * k) 23 4)
+pub like_latitude : (k : ℕ) → 0 < k → k < 5 → Like (80 + 2 * k) 23 4
+unfolding item_of item_in member groups
+like_latitude =
+    by_four (λ k. Like (80 + 2 * k) 23 4)
     (alike 82 23 latitude refl refl refl)
     (alike 84 23 latitude refl refl refl)
     (alike 86 23 latitude refl refl refl)
     (alike 88 23 latitude refl refl refl)
 
-pub like-longitude : (k : ℕ) → 0 < k → k < 5 → Like (81 + 2 * k) 24 4
-unfolding itemOf itemIn member groups
-like-longitude =
-    by-four (λ k. Like (81 + 2 * k) 24 4)
+pub like_longitude : (k : ℕ) → 0 < k → k < 5 → Like (81 + 2 * k) 24 4
+unfolding item_of item_in member groups
+like_longitude =
+    by_four (λ k. Like (81 + 2 * k) 24 4)
     (alike 83 24 longitude refl refl refl)
     (alike 85 24 longitude refl refl refl)
     (alike 87 24 longitude refl refl refl)
     (alike 89 24 longitude refl refl refl)
 
-pub like-north : (k : ℕ) → 0 < k → k < 5 → Like (24 + 2 * k) 26 2
-unfolding itemOf itemIn member groups
-like-north =
-    by-four (λ k. Like (24 + 2 * k) 26 2)
+pub like_north : (k : ℕ) → 0 < k → k < 5 → Like (24 + 2 * k) 26 2
+unfolding item_of item_in member groups
+like_north =
+    by_four (λ k. Like (24 + 2 * k) 26 2)
     (alike 26 26 offset refl refl refl)
     (alike 28 26 offset refl refl refl)
     (alike 30 26 offset refl refl refl)
     (alike 32 26 offset refl refl refl)
 
-pub like-east : (k : ℕ) → 0 < k → k < 5 → Like (25 + 2 * k) 26 2
-unfolding itemOf itemIn member groups
-like-east =
-    by-four (λ k. Like (25 + 2 * k) 26 2)
+pub like_east : (k : ℕ) → 0 < k → k < 5 → Like (25 + 2 * k) 26 2
+unfolding item_of item_in member groups
+like_east =
+    by_four (λ k. Like (25 + 2 * k) 26 2)
     (alike 27 26 offset refl refl refl)
     (alike 29 26 offset refl refl refl)
     (alike 31 26 offset refl refl refl)

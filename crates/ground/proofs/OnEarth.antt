@@ -11,32 +11,32 @@ use lib.Dec.{ltb}
 use lib.IntN.{ℤ, pos, negsuc, neg_ℤ, nat_abs, sub_ℕ, ◌+ℤ◌}
 use lib.Signed.{mag, lt_z}
 use borrow.Author.Tests.{lt-ltb, le-ltb, le-leb, ltb-true, ltb-false}
-use Rattle.base.proofs.Cases.{byBool, byLt, byEq, never, clash}
+use Rattle.base.proofs.Cases.{by_bool, by_lt, by_eq, never, clash}
 use Rattle.base.proofs.Every.{both_left, both_right}
 use Rattle.refusal.specs.Answer.{given}
-use Rattle.refusal.proofs.Answers.{map-given}
+use Rattle.refusal.proofs.Answers.{map_given}
 use Rattle.tagset.specs.declared.TagSet.{TagSet}
-use Rattle.catalogue.specs.Items.{groups, member, itemIn, itemOf}
+use Rattle.catalogue.specs.Items.{groups, member, item_in, item_of}
 use Rattle.catalogue.specs.declared.Item.{Item}
 use Rattle.catalogue.specs.declared.Found.TheVariants.{Known}
 use Rattle.rows.specs.declared.RowWords.{RowWords}
 use Rattle.packet.specs.Verdict.{received}
 use Rattle.scale.specs.Scales.{beyond}
 use Rattle.scale.proofs.Items.{neither_left, neither_right}
-use Rattle.ground.specs.Values.{valueFor}
-use Rattle.ground.specs.Earth.{halfTurn, beyondPole, in_range, turnFor, broughtBack}
-use Rattle.ground.specs.Ground.{CornerSeen, noCorner, offTheEarth, on, point_of, sum_of, offsetCoordinate, fullCorner, offsetCorner}
-use Rattle.ground.specs.Ground.{otherwise, plainCorner, onEarth, cornerIn, fromRows, cornerOf}
-use Rattle.ground.specs.Said.{cornerSaid}
+use Rattle.ground.specs.Values.{value_for}
+use Rattle.ground.specs.Earth.{half_turn, beyond_pole, in_range, turn_for, brought_back}
+use Rattle.ground.specs.Ground.{CornerSeen, no_corner, off_the_earth, on, point_of, sum_of, offset_coordinate, full_corner, offset_corner}
+use Rattle.ground.specs.Ground.{otherwise, plain_corner, on_earth, corner_in, from_rows, corner_of}
+use Rattle.ground.specs.Said.{corner_said}
 use Rattle.ground.specs.declared.Value.{Value}
 use Rattle.ground.specs.declared.Value.TheVariants.{Absent, Off, At}
 use Rattle.ground.specs.declared.Point.{Point}
 use Rattle.ground.specs.declared.Corner.{Corner}
 use Rattle.ground.specs.declared.Corner.TheVariants as corner
-use Rattle.ground.specs.code.Located.{itemWith, Like}
-use Rattle.ground.proofs.Values.{value-inside}
-use Rattle.ground.proofs.Alike.{like-24, like-latitude, like-longitude, like-east}
-use Rattle.ground.proofs.Earth.{Modulo, range-stays, back-in-range, back-modulo}
+use Rattle.ground.specs.code.Located.{item_with, Like}
+use Rattle.ground.proofs.Values.{value_inside}
+use Rattle.ground.proofs.Alike.{like_24, like_latitude, like_longitude, like_east}
+use Rattle.ground.proofs.Earth.{Modulo, range_stays, back_in_range, back_modulo}
 
 -- both ends alike: no farther from zero
 within : (x : ℕ) (v : ℤ) → beyond (neg_ℤ (pos x)) (pos x) v ≡ false → nat_abs v ≤ x
@@ -45,40 +45,40 @@ within zero (negsuc n) e = clash e
 within (suc x) (negsuc n) e = omega (arith, ltb-false x n (neither_left (ltb x n) _ e))
 
 -- a value of a tag that is stored as u is, from -x to x
-value-within : {t u width x : ℕ} (k : Like t u width) (i : Item) → itemOf u ≡ Known i → i.low ≡ neg_ℤ (pos x) → i.high ≡ pos x
-    → (rs : List RowWords) (v : ℤ) → valueFor t rs ≡ At v → nat_abs v ≤ x
-value-within {t} {u} {width} {x} k i e low high rs v f =
-    let told : Known (itemWith u k.group) ≡ Known i = sym k.other ∙ e in
-    let same : itemWith u k.group ≡ i = cc in
-    let inside : beyond k.group.low k.group.high v ≡ false = value-inside (record { known = k.one; has-scale = k.scale }) v rs f in
+value_within : {t u width x : ℕ} (k : Like t u width) (i : Item) → item_of u ≡ Known i → i.low ≡ neg_ℤ (pos x) → i.high ≡ pos x
+    → (rs : List RowWords) (v : ℤ) → value_for t rs ≡ At v → nat_abs v ≤ x
+value_within {t} {u} {width} {x} k i e low high rs v f =
+    let told : Known (item_with u k.group) ≡ Known i = sym k.other ∙ e in
+    let same : item_with u k.group ≡ i = cc in
+    let inside : beyond k.group.low k.group.high v ≡ false = value_inside (record { known = k.one; has_scale = k.scale }) v rs f in
     let from : k.group.low ≡ neg_ℤ (pos x) = ap (λ j. j.low) same ∙ low in
     let to : k.group.high ≡ pos x = ap (λ j. j.high) same ∙ high in
     within x v (rw (from, to) at inside)
 
-latitude-within : {t : ℕ} → Like t 23 4 → (rs : List RowWords) (v : ℤ) → valueFor t rs ≡ At v → nat_abs v ≤ 900000000
-unfolding itemOf itemIn member groups
-latitude-within k = value-within k _ refl refl refl
+latitude_within : {t : ℕ} → Like t 23 4 → (rs : List RowWords) (v : ℤ) → value_for t rs ≡ At v → nat_abs v ≤ 900000000
+unfolding item_of item_in member groups
+latitude_within k = value_within k _ refl refl refl
 
-longitude-within : {t : ℕ} → Like t 24 4 → (rs : List RowWords) (v : ℤ) → valueFor t rs ≡ At v → nat_abs v ≤ 1800000000
-unfolding itemOf itemIn member groups
-longitude-within k = value-within k _ refl refl refl
+longitude_within : {t : ℕ} → Like t 24 4 → (rs : List RowWords) (v : ℤ) → value_for t rs ≡ At v → nat_abs v ≤ 1800000000
+unfolding item_of item_in member groups
+longitude_within k = value_within k _ refl refl refl
 
-offset-within : {t : ℕ} → Like t 26 2 → (rs : List RowWords) (v : ℤ) → valueFor t rs ≡ At v → nat_abs v ≤ 750000
-unfolding itemOf itemIn member groups
-offset-within k = value-within k _ refl refl refl
+offset_within : {t : ℕ} → Like t 26 2 → (rs : List RowWords) (v : ℤ) → value_for t rs ≡ At v → nat_abs v ≤ 750000
+unfolding item_of item_in member groups
+offset_within k = value_within k _ refl refl refl
 
 -- a sum is no farther from zero than both together
-sub-far : (a b : ℕ) → nat_abs (sub_ℕ a b) ≤ a + b
-sub-far a b =
-    byLt a b
+sub_far : (a b : ℕ) → nat_abs (sub_ℕ a b) ≤ a + b
+sub_far a b =
+    by_lt a b
     (λ l. rw (lt-ltb a b l) (omega arith))
     (λ l. rw (le-ltb a b l) (omega arith))
 
-sum-far : (a b : ℤ) → nat_abs (a +ℤ b) ≤ nat_abs a + nat_abs b
-sum-far (pos a) (pos b) = omega arith
-sum-far (pos a) (negsuc b) = sub-far a (suc b)
-sum-far (negsuc a) (pos b) = omega (arith, sub-far b (suc a))
-sum-far (negsuc a) (negsuc b) = omega arith
+sum_far : (a b : ℤ) → nat_abs (a +ℤ b) ≤ nat_abs a + nat_abs b
+sum_far (pos a) (pos b) = omega arith
+sum_far (pos a) (negsuc b) = sub_far a (suc b)
+sum_far (negsuc a) (pos b) = omega (arith, sub_far b (suc a))
+sum_far (negsuc a) (negsuc b) = omega arith
 
 -- the rows that a plain point is made of
 pointed : (x y : Value) (a b : ℤ) → point_of x y ≡ on a b → (x ≡ At a) × (y ≡ At b)
@@ -107,142 +107,142 @@ summed (At c) Absent v e = never (cc)
 summed (At c) Off v e = never (cc)
 
 decided : (f o : CornerSeen) (a b : ℤ) → otherwise f o ≡ on a b → (f ≡ on a b) ⊎ (o ≡ on a b)
-decided noCorner o a b e = inr e
-decided offTheEarth o a b e = never (cc)
+decided no_corner o a b e = inr e
+decided off_the_earth o a b e = never (cc)
 decided (on c d) o a b e = inl e
 
-few-far : (v : ℤ) → nat_abs v ≤ 1800750000 → mag v < 5400000000
-few-far (pos n) h = omega (arith, h)
-few-far (negsuc n) h = omega (arith, h)
+few_far : (v : ℤ) → nat_abs v ≤ 1800750000 → mag v < 5400000000
+few_far (pos n) h = omega (arith, h)
+few_far (negsuc n) h = omega (arith, h)
 
-in-range : (v : ℤ) → nat_abs v ≤ 1800000000 → (v ≡ halfTurn → ⊥) → in_range v ≡ true
-in-range (pos n) h ne = lt-ltb n 1800000000 (byEq n 1800000000 (λ e. absurd (ne (ap pos e))) (λ e. omega (arith, h, e)))
+in-range : (v : ℤ) → nat_abs v ≤ 1800000000 → (v ≡ half_turn → ⊥) → in_range v ≡ true
+in-range (pos n) h ne = lt-ltb n 1800000000 (by_eq n 1800000000 (λ e. absurd (ne (ap pos e))) (λ e. omega (arith, h, e)))
 in-range (negsuc n) h ne = rw (le-leb n 1799999999 (omega (arith, h)))
 
-no-pole : (v : ℤ) → nat_abs v ≤ 900000000 → beyondPole v ≡ false
-no-pole (pos n) h = le-ltb 900000000 n h
-no-pole (negsuc n) h = rw (le-ltb 899999999 n (omega (arith, h)))
+no_pole : (v : ℤ) → nat_abs v ≤ 900000000 → beyond_pole v ≡ false
+no_pole (pos n) h = le-ltb 900000000 n h
+no_pole (negsuc n) h = rw (le-ltb 899999999 n (omega (arith, h)))
 
 -- the plain point, which is that of the full rows or that of the centre and the offset
 module _ (k : ℕ) (rs : List RowWords) (a b : ℤ) where
   record Plain : Type 0 where
     some : 0 < k
     few : k < 5
-    from : (fullCorner k rs ≡ on a b) ⊎ (offsetCorner k rs ≡ on a b)
+    from : (full_corner k rs ≡ on a b) ⊎ (offset_corner k rs ≡ on a b)
 
-  plain : plainCorner k rs ≡ on a b → Plain
-  unfolding plainCorner
+  plain : plain_corner k rs ≡ on a b → Plain
+  unfolding plain_corner
   plain e =
-      byBool (ltb 0 k && ltb k 5)
+      by_bool (ltb 0 k && ltb k 5)
       (λ q. record {
         some = ltb-true 0 k (both_left (ltb 0 k) _ q);
         few = ltb-true k 5 (both_right (ltb 0 k) _ q);
-        from = decided (fullCorner k rs) (offsetCorner k rs) a b (rw q at e);
+        from = decided (full_corner k rs) (offset_corner k rs) a b (rw q at e);
       })
-      (λ q. let f : noCorner ≡ on a b = rw q at e in never (cc))
+      (λ q. let f : no_corner ≡ on a b = rw q at e in never (cc))
 
-  full-far : 0 < k → k < 5 → fullCorner k rs ≡ on a b → (nat_abs a ≤ 900000000) × (nat_abs b ≤ 1800000000)
-  unfolding fullCorner
-  full-far some few e =
+  full_far : 0 < k → k < 5 → full_corner k rs ≡ on a b → (nat_abs a ≤ 900000000) × (nat_abs b ≤ 1800000000)
+  unfolding full_corner
+  full_far some few e =
       let p = pointed _ _ a b e in
-      (latitude-within (like-latitude k some few) rs a p.0, longitude-within (like-longitude k some few) rs b p.1)
+      (latitude_within (like_latitude k some few) rs a p.0, longitude_within (like_longitude k some few) rs b p.1)
 
   -- no sum of a centre and an offset is farther than 0.075 degrees past 180, so one turn is enough
-  offset-far : 0 < k → k < 5 → offsetCorner k rs ≡ on a b → nat_abs b ≤ 1800750000
-  unfolding offsetCorner
-  offset-far some few e =
-      let p = pointed (offsetCoordinate 23 (24 + 2 * k) rs) (offsetCoordinate 24 (25 + 2 * k) rs) a b e in
-      let s = summed (valueFor 24 rs) (valueFor (25 + 2 * k) rs) b p.1 in
+  offset_far : 0 < k → k < 5 → offset_corner k rs ≡ on a b → nat_abs b ≤ 1800750000
+  unfolding offset_corner
+  offset_far some few e =
+      let p = pointed (offset_coordinate 23 (24 + 2 * k) rs) (offset_coordinate 24 (25 + 2 * k) rs) a b e in
+      let s = summed (value_for 24 rs) (value_for (25 + 2 * k) rs) b p.1 in
       rw s.sum
-      (omega (arith, sum-far s.centre s.offset, longitude-within like-24 rs _ s.first, offset-within (like-east k some few) rs _ s.second))
+      (omega (arith, sum_far s.centre s.offset, longitude_within like_24 rs _ s.first, offset_within (like_east k some few) rs _ s.second))
 
-  pub plain-far : plainCorner k rs ≡ on a b → nat_abs b ≤ 1800750000
-  plain-far e =
+  pub plain_far : plain_corner k rs ≡ on a b → nat_abs b ≤ 1800750000
+  plain_far e =
       let p = plain e in
-      ⊎_elim (λ f. omega (arith, (full-far p.some p.few f).1)) (λ f. offset-far p.some p.few f) p.from
+      ⊎_elim (λ f. omega (arith, (full_far p.some p.few f).1)) (λ f. offset_far p.some p.few f) p.from
 
   -- a plain point is on the Earth with its longitude brought back, or it is beyond a pole
-  pub brought-back : plainCorner k rs ≡ on a b → beyondPole a ≡ false → cornerIn k rs ≡ on a (broughtBack b)
-  unfolding cornerIn
+  pub brought-back : plain_corner k rs ≡ on a b → beyond_pole a ≡ false → corner_in k rs ≡ on a (brought_back b)
+  unfolding corner_in
   brought-back e p = rw (e, p)
 
-  pub past-pole : plainCorner k rs ≡ on a b → beyondPole a ≡ true → cornerIn k rs ≡ offTheEarth
-  unfolding cornerIn
-  past-pole e p = rw (e, p)
+  pub past_pole : plain_corner k rs ≡ on a b → beyond_pole a ≡ true → corner_in k rs ≡ off_the_earth
+  unfolding corner_in
+  past_pole e p = rw (e, p)
 
   -- where the plain point was in range, nothing changed
-  pub as_before : plainCorner k rs ≡ on a b → beyondPole a ≡ false → in_range b ≡ true → cornerIn k rs ≡ on a b
-  as_before e p r = brought-back e p ∙ ap (on a) (range-stays b r)
+  pub as_before : plain_corner k rs ≡ on a b → beyond_pole a ≡ false → in_range b ≡ true → corner_in k rs ≡ on a b
+  as_before e p r = brought-back e p ∙ ap (on a) (range_stays b r)
 
   -- of full corners only a longitude of exactly 180 degrees moves
-  full-plain : 0 < k → k < 5 → fullCorner k rs ≡ on a b → plainCorner k rs ≡ on a b
-  unfolding plainCorner
-  full-plain some few e = rw (lt-ltb 0 k some, lt-ltb k 5 few, e)
+  full_plain : 0 < k → k < 5 → full_corner k rs ≡ on a b → plain_corner k rs ≡ on a b
+  unfolding plain_corner
+  full_plain some few e = rw (lt-ltb 0 k some, lt-ltb k 5 few, e)
 
-  pub full-stays : 0 < k → k < 5 → fullCorner k rs ≡ on a b → (b ≡ halfTurn → ⊥) → cornerIn k rs ≡ on a b
-  full-stays some few e ne =
-      let f = full-far some few e in
-      as_before (full-plain some few e) (no-pole a f.0) (in-range b f.1 ne)
+  pub full_stays : 0 < k → k < 5 → full_corner k rs ≡ on a b → (b ≡ half_turn → ⊥) → corner_in k rs ≡ on a b
+  full_stays some few e ne =
+      let f = full_far some few e in
+      as_before (full_plain some few e) (no_pole a f.0) (in-range b f.1 ne)
 
-  pub full-moves : 0 < k → k < 5 → fullCorner k rs ≡ on a b → b ≡ halfTurn → cornerIn k rs ≡ on a (neg_ℤ halfTurn)
-  unfolding turnFor
-  full-moves some few e q =
-      brought-back (full-plain some few e) (no-pole a (full-far some few e).0) ∙ rw q
+  pub full_moves : 0 < k → k < 5 → full_corner k rs ≡ on a b → b ≡ half_turn → corner_in k rs ≡ on a (neg_ℤ half_turn)
+  unfolding turn_for
+  full_moves some few e q =
+      brought-back (full_plain some few e) (no_pole a (full_far some few e).0) ∙ rw q
 
 -- missing comes before off the Earth: what lacks a row used is still missing
-pub still-missing : (k : ℕ) (rs : List RowWords) → plainCorner k rs ≡ noCorner → cornerIn k rs ≡ noCorner
-unfolding cornerIn
-still-missing k rs e = rw e
+pub still_missing : (k : ℕ) (rs : List RowWords) → plain_corner k rs ≡ no_corner → corner_in k rs ≡ no_corner
+unfolding corner_in
+still_missing k rs e = rw e
 
 -- and nothing else is
-pub was-missing : (k : ℕ) (rs : List RowWords) → cornerIn k rs ≡ noCorner → plainCorner k rs ≡ noCorner
-unfolding cornerIn
-was-missing k rs = go (plainCorner k rs)
+pub was_missing : (k : ℕ) (rs : List RowWords) → corner_in k rs ≡ no_corner → plain_corner k rs ≡ no_corner
+unfolding corner_in
+was_missing k rs = go (plain_corner k rs)
   where
-    go : (c : CornerSeen) → onEarth c ≡ noCorner → c ≡ noCorner
-    go noCorner e = refl
-    go offTheEarth e = never (cc)
-    go (on a b) e = byBool (beyondPole a) (λ p. let f : offTheEarth ≡ noCorner = rw p at e in never (cc))
-        (λ p. let f : on a (broughtBack b) ≡ noCorner = rw p at e in never (cc))
+    go : (c : CornerSeen) → on_earth c ≡ no_corner → c ≡ no_corner
+    go no_corner e = refl
+    go off_the_earth e = never (cc)
+    go (on a b) e = by_bool (beyond_pole a) (λ p. let f : off_the_earth ≡ no_corner = rw p at e in never (cc))
+        (λ p. let f : on a (brought_back b) ≡ no_corner = rw p at e in never (cc))
 
 -- what a point that is answered is
 pub record OnTheEarth (k : ℕ) (rs : List RowWords) (a b : ℤ) : Type 0 where
-  pub latitude : beyondPole a ≡ false
+  pub latitude : beyond_pole a ≡ false
   pub longitude : in_range b ≡ true
   pub sum : ℤ
-  pub was : plainCorner k rs ≡ on a sum
+  pub was : plain_corner k rs ≡ on a sum
   pub modulo : Modulo sum b
 
-pub on-the-earth : (k : ℕ) (rs : List RowWords) (a b : ℤ) → cornerIn k rs ≡ on a b → OnTheEarth k rs a b
-unfolding cornerIn
-on-the-earth k rs a b = go (plainCorner k rs) refl
+pub on_the_earth : (k : ℕ) (rs : List RowWords) (a b : ℤ) → corner_in k rs ≡ on a b → OnTheEarth k rs a b
+unfolding corner_in
+on_the_earth k rs a b = go (plain_corner k rs) refl
   where
-    go : (c : CornerSeen) → plainCorner k rs ≡ c → onEarth c ≡ on a b → OnTheEarth k rs a b
-    go noCorner w e = never (cc)
-    go offTheEarth w e = never (cc)
+    go : (c : CornerSeen) → plain_corner k rs ≡ c → on_earth c ≡ on a b → OnTheEarth k rs a b
+    go no_corner w e = never (cc)
+    go off_the_earth w e = never (cc)
     go (on c d) w e =
-        byBool (beyondPole c)
-        (λ p. let f : offTheEarth ≡ on a b = rw p at e in never (cc))
+        by_bool (beyond_pole c)
+        (λ p. let f : off_the_earth ≡ on a b = rw p at e in never (cc))
         (λ p.
-        let f : on c (broughtBack d) ≡ on a b = rw p at e in
+        let f : on c (brought_back d) ≡ on a b = rw p at e in
         let north : c ≡ a = cc in
-        let east : broughtBack d ≡ b = cc in
+        let east : brought_back d ≡ b = cc in
         record {
           latitude = rw (← north) p;
-          longitude = rw (← east) (back-in-range d (few-far d (plain-far k rs c d w)));
+          longitude = rw (← east) (back_in_range d (few_far d (plain_far k rs c d w)));
           sum = d;
           was = rw (← north) w;
-          modulo = rw (← east) (back-modulo d);
+          modulo = rw (← east) (back_modulo d);
         })
 
 -- for each packet, and for what the function answers: a point on the Earth
-pub corner-on-earth : (k : ℕ) (K : TagSet) (p : List ℕ) (a b : ℤ) → cornerOf k K p ≡ given (on a b) → (beyondPole a ≡ false) × (in_range b ≡ true)
-unfolding fromRows
-corner-on-earth k K p a b e =
-    let m = map-given _ (received K p) e in
-    let o = on-the-earth k _ a b m.2 in
+pub corner_on_earth : (k : ℕ) (K : TagSet) (p : List ℕ) (a b : ℤ) → corner_of k K p ≡ given (on a b) → (beyond_pole a ≡ false) × (in_range b ≡ true)
+unfolding from_rows
+corner_on_earth k K p a b e =
+    let m = map_given _ (received K p) e in
+    let o = on_the_earth k _ a b m.2 in
     (o.latitude, o.longitude)
 
-pub answer-on-earth : (k : ℕ) (K : TagSet) (p : List ℕ) (r : Corner) (q : Point) → cornerSaid r ≡ cornerOf k K p → r ≡ corner.At q
-    → (beyondPole q.latitude ≡ false) × (in_range q.longitude ≡ true)
-answer-on-earth k K p r q e f = corner-on-earth k K p q.latitude q.longitude (sym e ∙ ap cornerSaid f)
+pub answer_on_earth : (k : ℕ) (K : TagSet) (p : List ℕ) (r : Corner) (q : Point) → corner_said r ≡ corner_of k K p → r ≡ corner.At q
+    → (beyond_pole q.latitude ≡ false) × (in_range q.longitude ≡ true)
+answer_on_earth k K p r q e f = corner_on_earth k K p q.latitude q.longitude (sym e ∙ ap corner_said f)

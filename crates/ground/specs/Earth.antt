@@ -7,24 +7,24 @@ use Rattle.scale.specs.Scales.{beyond}
 abbrev pub pole : ℤ
 pole = pos 900000000
 
-abbrev pub halfTurn : ℤ
-halfTurn = pos 1800000000
+abbrev pub half_turn : ℤ
+half_turn = pos 1800000000
 
-abbrev pub oneTurn : ℤ
-oneTurn = pos 3600000000
+abbrev pub one_turn : ℤ
+one_turn = pos 3600000000
 
 -- "A latitude sum beyond 90 degrees either way"
-abbrev pub beyondPole : ℤ → Bool
-beyondPole latitude = beyond (neg_ℤ pole) pole latitude
+abbrev pub beyond_pole : ℤ → Bool
+beyond_pole latitude = beyond (neg_ℤ pole) pole latitude
 
 -- "-180 (included) to 180 (excluded)"
 abbrev pub in_range : ℤ → Bool
-in_range longitude = le_z (neg_ℤ halfTurn) longitude && lt_z longitude halfTurn
+in_range longitude = le_z (neg_ℤ half_turn) longitude && lt_z longitude half_turn
 
 -- the turn that brings a longitude back: 180 degrees and more goes down, below -180 goes up
-unfoldable pub turnFor : ℤ → ℤ
-turnFor longitude = cond (le_z halfTurn longitude) (neg_ℤ oneTurn) (cond (lt_z longitude (neg_ℤ halfTurn)) oneTurn (pos 0))
+unfoldable pub turn_for : ℤ → ℤ
+turn_for longitude = cond (le_z half_turn longitude) (neg_ℤ one_turn) (cond (lt_z longitude (neg_ℤ half_turn)) one_turn (pos 0))
 
 -- "Longitude is to come back into -180 (included) to 180 (excluded) by one turn of 360 degrees"
-abbrev pub broughtBack : ℤ → ℤ
-broughtBack longitude = longitude +ℤ turnFor longitude
+abbrev pub brought_back : ℤ → ℤ
+brought_back longitude = longitude +ℤ turn_for longitude

@@ -6,27 +6,27 @@ use Rattle.tagset.specs.declared.TagSet.{TagSet}
 use Rattle.rows.specs.declared.RowWords.{RowWords}
 use Rattle.packet.specs.Verdict.{received}
 use Rattle.packet.specs.Rows.{rows_of}
-use Rattle.ground.specs.Values.{valueFor}
-use Rattle.ground.specs.Earth.{beyondPole, broughtBack}
+use Rattle.ground.specs.Values.{value_for}
+use Rattle.ground.specs.Earth.{beyond_pole, brought_back}
 use Rattle.ground.specs.declared.Value.{Value}
 use Rattle.ground.specs.declared.Value.TheVariants.{Absent, Off, At}
 
 -- "the answer keeps the kind of height it was"
 pub data HeightSeen : Type 0 where
-  noHeight : HeightSeen
-  overEllipsoid : (mm : ℤ) → HeightSeen
-  overSeaLevel : (mm : ℤ) → HeightSeen
+  no_height : HeightSeen
+  over_ellipsoid : (mm : ℤ) → HeightSeen
+  over_sea_level : (mm : ℤ) → HeightSeen
 
 -- the first row "if present, else" the second, "else missing"; no height has a mark
-abbrev pub heightBy : Value → Value → HeightSeen
-heightBy (At mm) other = overEllipsoid mm
-heightBy Off other = noHeight
-heightBy Absent (At mm) = overSeaLevel mm
-heightBy Absent Off = noHeight
-heightBy Absent Absent = noHeight
+abbrev pub height_by : Value → Value → HeightSeen
+height_by (At mm) other = over_ellipsoid mm
+height_by Off other = no_height
+height_by Absent (At mm) = over_sea_level mm
+height_by Absent Off = no_height
+height_by Absent Absent = no_height
 
-unfoldable pub heightIn : ℕ → ℕ → List RowWords → HeightSeen
-heightIn ellipsoid seaLevel rs = heightBy (valueFor ellipsoid rs) (valueFor seaLevel rs)
+unfoldable pub height_in : ℕ → ℕ → List RowWords → HeightSeen
+height_in ellipsoid seaLevel rs = height_by (value_for ellipsoid rs) (value_for seaLevel rs)
 
 -- of two rows over the ellipsoid the first that is present
 abbrev pub before : Value → Value → Value
@@ -35,22 +35,22 @@ before Off other = Off
 before Absent other = other
 
 -- "Sensor height: row 75 if present, else 15, else missing." W-202: "Item 104 goes before 75 for sensor height."
-unfoldable pub sensorIn : List RowWords → HeightSeen
-sensorIn rs = heightBy (before (valueFor 104 rs) (valueFor 75 rs)) (valueFor 15 rs)
+unfoldable pub sensor_in : List RowWords → HeightSeen
+sensor_in rs = height_by (before (value_for 104 rs) (value_for 75 rs)) (value_for 15 rs)
 
 pub data CornerSeen : Type 0 where
-  noCorner : CornerSeen
-  offTheEarth : CornerSeen
+  no_corner : CornerSeen
+  off_the_earth : CornerSeen
   on : (latitude longitude : ℤ) → CornerSeen
 
 -- both coordinates, "a mark in any row used gives "off the Earth""
 abbrev pub point_of : Value → Value → CornerSeen
-point_of Absent longitude = noCorner
-point_of Off Absent = noCorner
-point_of Off Off = offTheEarth
-point_of Off (At b) = offTheEarth
-point_of (At a) Absent = noCorner
-point_of (At a) Off = offTheEarth
+point_of Absent longitude = no_corner
+point_of Off Absent = no_corner
+point_of Off Off = off_the_earth
+point_of Off (At b) = off_the_earth
+point_of (At a) Absent = no_corner
+point_of (At a) Off = off_the_earth
 point_of (At a) (At b) = on a b
 
 -- "each is turned into house units and the plain sum is taken"
@@ -64,48 +64,48 @@ sum_of (At a) Off = Off
 sum_of (At a) (At b) = At (a +ℤ b)
 
 -- the coordinate of a full row, and that of a centre row and an offset row
-abbrev pub fullCoordinate : ℕ → List RowWords → Value
-fullCoordinate full rs = valueFor full rs
+abbrev pub full_coordinate : ℕ → List RowWords → Value
+full_coordinate full rs = value_for full rs
 
-abbrev pub offsetCoordinate : ℕ → ℕ → List RowWords → Value
-offsetCoordinate centre offset rs = sum_of (valueFor centre rs) (valueFor offset rs)
+abbrev pub offset_coordinate : ℕ → ℕ → List RowWords → Value
+offset_coordinate centre offset rs = sum_of (value_for centre rs) (value_for offset rs)
 
 -- "full rows 80+2k, 81+2k and offset rows 24+2k, 25+2k", with the frame centre's rows 23 and 24
-unfoldable pub fullCorner : ℕ → List RowWords → CornerSeen
-fullCorner k rs = point_of (fullCoordinate (80 + 2 * k) rs) (fullCoordinate (81 + 2 * k) rs)
+unfoldable pub full_corner : ℕ → List RowWords → CornerSeen
+full_corner k rs = point_of (full_coordinate (80 + 2 * k) rs) (full_coordinate (81 + 2 * k) rs)
 
-unfoldable pub offsetCorner : ℕ → List RowWords → CornerSeen
-offsetCorner k rs = point_of (offsetCoordinate 23 (24 + 2 * k) rs) (offsetCoordinate 24 (25 + 2 * k) rs)
+unfoldable pub offset_corner : ℕ → List RowWords → CornerSeen
+offset_corner k rs = point_of (offset_coordinate 23 (24 + 2 * k) rs) (offset_coordinate 24 (25 + 2 * k) rs)
 
 -- "If both full rows are present they decide"
 abbrev pub otherwise : CornerSeen → CornerSeen → CornerSeen
-otherwise noCorner other = other
-otherwise offTheEarth other = offTheEarth
+otherwise no_corner other = other
+otherwise off_the_earth other = off_the_earth
 otherwise (on a b) other = on a b
 
 -- "Any other k is missing."
-unfoldable pub plainCorner : ℕ → List RowWords → CornerSeen
-plainCorner k rs = cond (ltb 0 k && ltb k 5) (otherwise (fullCorner k rs) (offsetCorner k rs)) noCorner
+unfoldable pub plain_corner : ℕ → List RowWords → CornerSeen
+plain_corner k rs = cond (ltb 0 k && ltb k 5) (otherwise (full_corner k rs) (offset_corner k rs)) no_corner
 
 -- W-203 changed "the plain sum is taken": "The plain sum in document 01 is wrong there. Longitude is to come back … for sums and also for full
 -- corners at exactly 180. A latitude sum beyond 90 degrees either way is "off the Earth"." No full row has such a latitude.
-abbrev pub onEarth : CornerSeen → CornerSeen
-onEarth noCorner = noCorner
-onEarth offTheEarth = offTheEarth
-onEarth (on latitude longitude) = cond (beyondPole latitude) offTheEarth (on latitude (broughtBack longitude))
+abbrev pub on_earth : CornerSeen → CornerSeen
+on_earth no_corner = no_corner
+on_earth off_the_earth = off_the_earth
+on_earth (on latitude longitude) = cond (beyond_pole latitude) off_the_earth (on latitude (brought_back longitude))
 
-unfoldable pub cornerIn : ℕ → List RowWords → CornerSeen
-cornerIn k rs = onEarth (plainCorner k rs)
+unfoldable pub corner_in : ℕ → List RowWords → CornerSeen
+corner_in k rs = on_earth (plain_corner k rs)
 
 -- what a receiver works out of the rows of a packet, or "first … the reader's refusal (never 2)"
-unfoldable pub fromRows : {A : Type 0} → (List RowWords → A) → TagSet → List ℕ → Answer A
-fromRows f K p = map (λ is. f (rows_of (holds K) is)) (received K p)
+unfoldable pub from_rows : {A : Type 0} → (List RowWords → A) → TagSet → List ℕ → Answer A
+from_rows f K p = map (λ is. f (rows_of (holds K) is)) (received K p)
 
-abbrev pub sensorHeight : TagSet → List ℕ → Answer HeightSeen
-sensorHeight = fromRows sensorIn
+abbrev pub sensor_height : TagSet → List ℕ → Answer HeightSeen
+sensor_height = from_rows sensor_in
 
-abbrev pub frameCentreHeight : TagSet → List ℕ → Answer HeightSeen
-frameCentreHeight = fromRows (heightIn 78 25)
+abbrev pub frame_centre_height : TagSet → List ℕ → Answer HeightSeen
+frame_centre_height = from_rows (height_in 78 25)
 
-abbrev pub cornerOf : ℕ → TagSet → List ℕ → Answer CornerSeen
-cornerOf k = fromRows (cornerIn k)
+abbrev pub corner_of : ℕ → TagSet → List ℕ → Answer CornerSeen
+corner_of k = from_rows (corner_in k)

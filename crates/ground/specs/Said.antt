@@ -1,19 +1,19 @@
 -- What the answers say: the height with its kind, the corner, or the refusal's number, place and tag.
 use Rattle.refusal.specs.Answer.{Answer, given, refusal}
-use Rattle.ground.specs.Ground.{HeightSeen, noHeight, overEllipsoid, overSeaLevel, CornerSeen, noCorner, offTheEarth, on}
+use Rattle.ground.specs.Ground.{HeightSeen, no_height, over_ellipsoid, over_sea_level, CornerSeen, no_corner, off_the_earth, on}
 use Rattle.ground.specs.declared.Height.{Height}
 use Rattle.ground.specs.declared.Height.TheVariants as height
 use Rattle.ground.specs.declared.Corner.{Corner}
 use Rattle.ground.specs.declared.Corner.TheVariants as corner
 
-abbrev pub heightSaid : Height → Answer HeightSeen
-heightSaid (height.OverEllipsoid h) = given (overEllipsoid h.0)
-heightSaid (height.OverSeaLevel h) = given (overSeaLevel h.0)
-heightSaid height.Missing = given noHeight
-heightSaid (height.Refused r) = refusal r
+abbrev pub height_said : Height → Answer HeightSeen
+height_said (height.OverEllipsoid h) = given (over_ellipsoid h.0)
+height_said (height.OverSeaLevel h) = given (over_sea_level h.0)
+height_said height.Missing = given no_height
+height_said (height.Refused r) = refusal r
 
-abbrev pub cornerSaid : Corner → Answer CornerSeen
-cornerSaid (corner.At p) = given (on p.latitude p.longitude)
-cornerSaid corner.OffTheEarth = given offTheEarth
-cornerSaid corner.Missing = given noCorner
-cornerSaid (corner.Refused r) = refusal r
+abbrev pub corner_said : Corner → Answer CornerSeen
+corner_said (corner.At p) = given (on p.latitude p.longitude)
+corner_said corner.OffTheEarth = given off_the_earth
+corner_said corner.Missing = given no_corner
+corner_said (corner.Refused r) = refusal r

@@ -5,32 +5,32 @@ use Rattle.std.specs.Int.Signed.{mag}
 use Rattle.refusal.specs.Answer.{Answer, given, refused}
 use Rattle.rows.specs.Meaning.{Meaning, reading, mark, text, carried, withdrawn, is_number}
 use Rattle.rows.specs.declared.RowWords.{RowWords}
-use Rattle.rows.specs.Taken.{rowSays}
-use Rattle.scale.specs.Conversions.{toHouse}
+use Rattle.rows.specs.Taken.{row_says}
+use Rattle.scale.specs.Conversions.{to_house}
 use Rattle.scale.specs.declared.House.{House}
 use Rattle.ground.specs.declared.Value.{Value}
 use Rattle.ground.specs.declared.Value.TheVariants.{Absent, Off, At}
 
 -- a code turned into house units; what is no number is never a place on the Earth
-abbrev pub inHouse : Answer House → Value
-inHouse (given h) = At h.value
-inHouse (refused n p t) = Off
+abbrev pub in_house : Answer House → Value
+in_house (given h) = At h.value
+in_house (refused n p t) = Off
 
 -- what is seen in an item of a tag: a mark is off the Earth, a reading is in house units; text, carried bytes and what is withdrawn never count
-abbrev pub valueSeen : {A : Type 0} → ℕ → Meaning A → Value
-valueSeen tag (reading code size) = inHouse (toHouse tag size code)
-valueSeen tag (mark code size) = Off
-valueSeen tag (text a) = Absent
-valueSeen tag (carried a) = Absent
-valueSeen tag withdrawn = Absent
+abbrev pub value_seen : {A : Type 0} → ℕ → Meaning A → Value
+value_seen tag (reading code size) = in_house (to_house tag size code)
+value_seen tag (mark code size) = Off
+value_seen tag (text a) = Absent
+value_seen tag (carried a) = Absent
+value_seen tag withdrawn = Absent
 
-unfoldable pub valueBy : RowWords → Value
-valueBy r = valueSeen r.tag (rowSays r)
+unfoldable pub value_by : RowWords → Value
+value_by r = value_seen r.tag (row_says r)
 
 -- the row of a tag, among readings and marks
-unfoldable pub valueFor : ℕ → List RowWords → Value
-valueFor t [] = Absent
-valueFor t (r ∷ rs) = cond (eqb r.tag t && is_number (rowSays r)) (valueBy r) (valueFor t rs)
+unfoldable pub value_for : ℕ → List RowWords → Value
+value_for t [] = Absent
+value_for t (r ∷ rs) = cond (eqb r.tag t && is_number (row_says r)) (value_by r) (value_for t rs)
 
 -- a value small enough to be added to another
 abbrev pub Small : Value → Type 0

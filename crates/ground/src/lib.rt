@@ -2,14 +2,14 @@
 // other; a mark is off the Earth and never a number.
 ghost use Rattle.std.specs.Prelude.{◌≡◌, ◌^◌, ◌<◌, true};
 ghost use Rattle.refusal.specs.Answer.{given, map};
-ghost use Rattle.catalogue.specs.Extended.{isExtended};
-ghost use Rattle.scale.specs.Conversions.{toHouse};
-ghost use Rattle.ground.specs.Values.{inHouse, valueFor, Small};
-ghost use Rattle.ground.specs.Earth.{turnFor};
-ghost use Rattle.ground.specs.Ground.{heightIn, sensorIn, point_of, sum_of, fullCorner, offsetCorner, plainCorner, on, onEarth};
-ghost use Rattle.ground.specs.Ground.{sensorHeight, frameCentreHeight, cornerOf};
-ghost use Rattle.ground.specs.Said.{heightSaid, cornerSaid};
-ghost use Rattle.ground.specs.code.Located.{Placed, rowsHeld, place_in, Like};
+ghost use Rattle.catalogue.specs.Extended.{is_extended};
+ghost use Rattle.scale.specs.Conversions.{to_house};
+ghost use Rattle.ground.specs.Values.{in_house, value_for, Small};
+ghost use Rattle.ground.specs.Earth.{turn_for};
+ghost use Rattle.ground.specs.Ground.{height_in, sensor_in, point_of, sum_of, full_corner, offset_corner, plain_corner, on, on_earth};
+ghost use Rattle.ground.specs.Ground.{sensor_height, frame_centre_height, corner_of};
+ghost use Rattle.ground.specs.Said.{height_said, corner_said};
+ghost use Rattle.ground.specs.code.Located.{Placed, rows_held, place_in, Like};
 
 use packet::Checked;
 use refusal::Refusal;
@@ -57,7 +57,7 @@ enum Value {
 
 // A code in house units; what is no number, as a mark, is no place on the Earth.
 fn in_house(tag: u64, length: usize, code: u64) -> Value
-    ensures { result ≡ inHouse (toHouse tag length code) }
+    ensures { result ≡ in_house (to_house tag length code) }
 {
     match scale::to_house(tag, length, code) {
         ToHouse::Is(house) => Value::At(house.value),
@@ -79,8 +79,8 @@ fn place_of(known: TagSet, places: &[u16; 128], tag: u64) -> usize
 
 // An extended height, by its place: before it stands its length.
 fn extended_at(packet: &[u8], known: TagSet, places: &[u16; 128], tag: u64) -> Value
-    requires { Placed known packet.now places.now × (isExtended tag ≡ true) }
-    ensures { result ≡ valueFor tag (rowsHeld known packet.now) }
+    requires { Placed known packet.now places.now × (is_extended tag ≡ true) }
+    ensures { result ≡ value_for tag (rows_held known packet.now) }
 {
     let place = place_of(known, places, tag);
     if 0 < place {
@@ -94,7 +94,7 @@ fn extended_at(packet: &[u8], known: TagSet, places: &[u16; 128], tag: u64) -> V
 // A height: all have the scale of 15, which stands here as a constant, so that the compiler works the scale out.
 fn height_at(packet: &[u8], known: TagSet, places: &[u16; 128], tag: u64) -> Value
     requires { Placed known packet.now places.now × Like tag 15 2 }
-    ensures { result ≡ valueFor tag (rowsHeld known packet.now) }
+    ensures { result ≡ value_for tag (rows_held known packet.now) }
 {
     let end = place_of(known, places, tag);
     if 0 < end {
@@ -106,7 +106,7 @@ fn height_at(packet: &[u8], known: TagSet, places: &[u16; 128], tag: u64) -> Val
 // A latitude, in the scale of 23.
 fn latitude_at(packet: &[u8], known: TagSet, places: &[u16; 128], tag: u64) -> Value
     requires { Placed known packet.now places.now × Like tag 23 4 }
-    ensures { result ≡ valueFor tag (rowsHeld known packet.now) }
+    ensures { result ≡ value_for tag (rows_held known packet.now) }
 {
     let end = place_of(known, places, tag);
     if 0 < end {
@@ -118,7 +118,7 @@ fn latitude_at(packet: &[u8], known: TagSet, places: &[u16; 128], tag: u64) -> V
 // A longitude, in the scale of 24.
 fn longitude_at(packet: &[u8], known: TagSet, places: &[u16; 128], tag: u64) -> Value
     requires { Placed known packet.now places.now × Like tag 24 4 }
-    ensures { result ≡ valueFor tag (rowsHeld known packet.now) }
+    ensures { result ≡ value_for tag (rows_held known packet.now) }
 {
     let end = place_of(known, places, tag);
     if 0 < end {
@@ -130,7 +130,7 @@ fn longitude_at(packet: &[u8], known: TagSet, places: &[u16; 128], tag: u64) -> 
 // A corner's offset from the frame centre, in the scale of 26.
 fn offset_at(packet: &[u8], known: TagSet, places: &[u16; 128], tag: u64) -> Value
     requires { Placed known packet.now places.now × Like tag 26 2 }
-    ensures { result ≡ valueFor tag (rowsHeld known packet.now) }
+    ensures { result ≡ value_for tag (rows_held known packet.now) }
 {
     let end = place_of(known, places, tag);
     if 0 < end {
@@ -142,7 +142,7 @@ fn offset_at(packet: &[u8], known: TagSet, places: &[u16; 128], tag: u64) -> Val
 // A height by its row over the ellipsoid, else by the one over mean sea level.
 fn height_in(packet: &[u8], known: TagSet, places: &[u16; 128], ellipsoid: u64, sea: u64) -> Height
     requires { Placed known packet.now places.now × Like ellipsoid 15 2 × Like sea 15 2 }
-    ensures { heightSaid result ≡ given (heightIn ellipsoid sea (rowsHeld known packet.now)) }
+    ensures { height_said result ≡ given (height_in ellipsoid sea (rows_held known packet.now)) }
 {
     match height_at(packet, known, places, ellipsoid) {
         Value::At(over) => Height::OverEllipsoid(EllipsoidHeight(over)),
@@ -158,7 +158,7 @@ fn height_in(packet: &[u8], known: TagSet, places: &[u16; 128], ellipsoid: u64, 
 // The sensor's height: row 104, else row 75, else row 15.
 fn sensor_in(packet: &[u8], known: TagSet, places: &[u16; 128]) -> Height
     requires { Placed known packet.now places.now }
-    ensures { heightSaid result ≡ given (sensorIn (rowsHeld known packet.now)) }
+    ensures { height_said result ≡ given (sensor_in (rows_held known packet.now)) }
 {
     match extended_at(packet, known, places, 104) {
         Value::At(over) => Height::OverEllipsoid(EllipsoidHeight(over)),
@@ -169,7 +169,7 @@ fn sensor_in(packet: &[u8], known: TagSet, places: &[u16; 128]) -> Height
 
 // The sensor's height.
 pub fn sensor_height(packet: &[u8], known: TagSet) -> Height
-    ensures { heightSaid result ≡ sensorHeight known packet.now }
+    ensures { height_said result ≡ sensor_height known packet.now }
 {
     let located = packet::locate(packet, known);
     let answer = located.answer;
@@ -181,7 +181,7 @@ pub fn sensor_height(packet: &[u8], known: TagSet) -> Height
 
 // The frame centre's height: row 78, else row 25.
 pub fn frame_centre_height(packet: &[u8], known: TagSet) -> Height
-    ensures { heightSaid result ≡ frameCentreHeight known packet.now }
+    ensures { height_said result ≡ frame_centre_height known packet.now }
 {
     let located = packet::locate(packet, known);
     let answer = located.answer;
@@ -213,7 +213,7 @@ fn sum(centre: Value, offset: Value) -> Value
 
 // Two coordinates make a point where both are there; a mark in either puts it off the Earth.
 fn point_of(latitude: Value, longitude: Value) -> Corner
-    ensures { cornerSaid result ≡ given (point_of latitude longitude) }
+    ensures { corner_said result ≡ given (point_of latitude longitude) }
 {
     match latitude {
         Value::Absent => Corner::Missing,
@@ -235,7 +235,7 @@ fn point_of(latitude: Value, longitude: Value) -> Corner
 
 fn full_corner(packet: &[u8], known: TagSet, places: &[u16; 128], k: u64) -> Corner
     requires { Placed known packet.now places.now × (0 < k) × (k < 5) }
-    ensures { cornerSaid result ≡ given (fullCorner k (rowsHeld known packet.now)) }
+    ensures { corner_said result ≡ given (full_corner k (rows_held known packet.now)) }
 {
     let latitude = latitude_at(packet, known, places, 80 + 2 * k);
     let longitude = longitude_at(packet, known, places, 81 + 2 * k);
@@ -244,7 +244,7 @@ fn full_corner(packet: &[u8], known: TagSet, places: &[u16; 128], k: u64) -> Cor
 
 fn offset_corner(packet: &[u8], known: TagSet, places: &[u16; 128], k: u64) -> Corner
     requires { Placed known packet.now places.now × (0 < k) × (k < 5) }
-    ensures { cornerSaid result ≡ given (offsetCorner k (rowsHeld known packet.now)) }
+    ensures { corner_said result ≡ given (offset_corner k (rows_held known packet.now)) }
 {
     let north = latitude_at(packet, known, places, 23);
     let up = offset_at(packet, known, places, 24 + 2 * k);
@@ -258,7 +258,7 @@ fn offset_corner(packet: &[u8], known: TagSet, places: &[u16; 128], k: u64) -> C
 // The full rows decide where both are there, also by a mark.
 fn plain_corner(packet: &[u8], known: TagSet, places: &[u16; 128], k: u64) -> Corner
     requires { Placed known packet.now places.now }
-    ensures { cornerSaid result ≡ given (plainCorner k (rowsHeld known packet.now)) }
+    ensures { corner_said result ≡ given (plain_corner k (rows_held known packet.now)) }
 {
     if k == 0 {
         return Corner::Missing;
@@ -292,7 +292,7 @@ const TURN_WEST: i64 = -3_600_000_000;
 
 // The turn that brings a longitude back: 180 degrees and more goes down, below -180 goes up.
 fn turn_for(longitude: i64) -> i64
-    ensures { result ≡ turnFor longitude }
+    ensures { result ≡ turn_for longitude }
 {
     if EAST_END <= longitude {
         return TURN_WEST;
@@ -305,7 +305,7 @@ fn turn_for(longitude: i64) -> i64
 
 // A plain point as a place on the Earth: its longitude comes back by one turn, and beyond a pole there is none.
 fn point_on_earth(plain: Point) -> Corner
-    ensures { cornerSaid result ≡ given (onEarth (on plain.latitude plain.longitude)) }
+    ensures { corner_said result ≡ given (on_earth (on plain.latitude plain.longitude)) }
 {
     if scale::is_outside(SOUTH_POLE, NORTH_POLE, plain.latitude) {
         return Corner::OffTheEarth;
@@ -318,7 +318,7 @@ fn point_on_earth(plain: Point) -> Corner
 }
 
 fn on_earth(plain: Corner) -> Corner
-    ensures { cornerSaid result ≡ map onEarth (cornerSaid plain) }
+    ensures { corner_said result ≡ map on_earth (corner_said plain) }
 {
     match plain {
         Corner::At(point) => point_on_earth(point),
@@ -330,7 +330,7 @@ fn on_earth(plain: Corner) -> Corner
 
 // Corner k of the picture on the ground, k from 1 to 4; any other k is missing.
 pub fn corner_at(packet: &[u8], known: TagSet, k: u64) -> Corner
-    ensures { cornerSaid result ≡ cornerOf k known packet.now }
+    ensures { corner_said result ≡ corner_of k known packet.now }
 {
     let located = packet::locate(packet, known);
     let answer = located.answer;

@@ -5,5 +5,5 @@ use Rattle.base.specs.Determined.{Answered}
 use Rattle.items.proofs.item_of.Kinds as item-of-kinds
 use Rattle.items.proofs.item_of.Reads as item-of-reads
 
-pub item-of-determined : Answered 0 item-of-kinds.ps item-of-kinds.r item-of-reads.Post
-item-of-determined κs a z z' e e' p q = p ∙ sym q
+pub item_of_determined : Answered 0 item-of-kinds.ps item-of-kinds.r item-of-reads.Post
+item_of_determined κs a z z' e e' p q = p ∙ sym q

@@ -13,6 +13,6 @@ pub zero_bits : (z : ℤ) → SFits w64 z → of_z w64 z ≡ 0 → is_zero z ≡
 zero_bits (pos n) f e = eq-eqb n 0 e
 zero_bits (negsuc n) f e = absurd (omega arith)
 
-pub other-bits : (z : ℤ) → (of_z w64 z ≡ 0 → ⊥) → is_zero z ≡ false
-other-bits (pos n) e = ne_eqb n 0 e
-other-bits (negsuc n) e = refl
+pub other_bits : (z : ℤ) → (of_z w64 z ≡ 0 → ⊥) → is_zero z ≡ false
+other_bits (pos n) e = ne_eqb n 0 e
+other_bits (negsuc n) e = refl

@@ -3,9 +3,9 @@
 ghost use Rattle.std.specs.Prelude.{◌≡◌, true, ◌+ℤ◌};
 ghost use Rattle.std.specs.Int.{w64};
 ghost use Rattle.std.proofs.Common.{SFits};
-ghost use Rattle.tagset.specs.Sets.{holds, countBelow};
-ghost use Rattle.catalogue.specs.Items.{itemOf};
-ghost use Rattle.catalogue.specs.Rows.{rows, entry_at, allTags, signBy};
+ghost use Rattle.tagset.specs.Sets.{holds, count_below};
+ghost use Rattle.catalogue.specs.Items.{item_of};
+ghost use Rattle.catalogue.specs.Rows.{rows, entry_at, all_tags, sign_by};
 
 use catalogue::{Entry, Found, Item, Sign};
 
@@ -88,7 +88,7 @@ fn table() -> [Entry; 67]
 
 fn sign_of(row: Entry) -> Sign
     requires { SFits w64 (row.3 +ℤ row.4) }
-    ensures { result ≡ signBy row }
+    ensures { result ≡ sign_by row }
 {
     if row.2 {
         let middle = row.3 + row.4;
@@ -102,8 +102,8 @@ fn sign_of(row: Entry) -> Sign
 
 // The row of a tag that is in the table. It is long as the table is: all indices are constants, so no row is stored into the frame.
 fn row_of(tag: u64) -> Entry
-    requires { holds allTags tag ≡ true }
-    ensures { result ≡ entry_at (countBelow allTags tag) }
+    requires { holds all_tags tag ≡ true }
+    ensures { result ≡ entry_at (count_below all_tags tag) }
 {
     let rows = table();
     match tag {
@@ -179,7 +179,7 @@ fn row_of(tag: u64) -> Entry
 
 // What the catalogue has for a tag.
 pub fn item_of(tag: u64) -> Found
-    ensures { result ≡ itemOf tag }
+    ensures { result ≡ item_of tag }
 {
     let all = catalogue::all_tags();
     if tagset::has(all, tag) {

@@ -5,5 +5,5 @@ use Rattle.base.specs.Determined.{Answered}
 use Rattle.knowing.proofs.is_good.Kinds as is-good-kinds
 use Rattle.knowing.proofs.is_good.Reads as is-good-reads
 
-pub is-good-determined : Answered 0 is-good-kinds.ps is-good-kinds.r is-good-reads.Post
-is-good-determined κs a z z' e e' p q = p ∙ sym q
+pub is_good_determined : Answered 0 is-good-kinds.ps is-good-kinds.r is-good-reads.Post
+is_good_determined κs a z z' e e' p q = p ∙ sym q

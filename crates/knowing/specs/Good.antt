@@ -3,17 +3,17 @@ use Rattle.std.specs.Prelude.{ℕ, Bool, true, false, not, ◌&&◌, ◌||◌}
 use Rattle.base.specs.Every.{all_below}
 use Rattle.tagset.specs.Sets.{holds}
 use Rattle.tagset.specs.declared.TagSet.{TagSet}
-use Rattle.catalogue.specs.Items.{itemOf}
+use Rattle.catalogue.specs.Items.{item_of}
 use Rattle.catalogue.specs.declared.Found.{Found}
 use Rattle.catalogue.specs.declared.Found.TheVariants.{Known, Absent}
 
-abbrev pub isKnown : Found → Bool
-isKnown (Known i) = true
-isKnown Absent = false
+abbrev pub is_known : Found → Bool
+is_known (Known i) = true
+is_known Absent = false
 
-unfoldable pub inCatalogue : ℕ → Bool
-inCatalogue t = isKnown (itemOf t)
+unfoldable pub in_catalogue : ℕ → Bool
+in_catalogue t = is_known (item_of t)
 
 -- no set holds a tag from 128 on
 unfoldable pub good : TagSet → Bool
-good s = holds s 1 && (holds s 2 && (holds s 65 && all_below (λ t. not (holds s t) || inCatalogue t) 128))
+good s = holds s 1 && (holds s 2 && (holds s 65 && all_below (λ t. not (holds s t) || in_catalogue t) 128))

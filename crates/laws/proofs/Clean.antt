@@ -9,44 +9,44 @@ use mathlib.Core.List.{List, [], ◌∷◌}
 use lib.ListN.{length}
 use lib.Dec.{eqb}
 use borrow.Author.Tests.{eqb-true, eqb-false, eq-eqb, ne_eqb}
-use Rattle.base.proofs.Cases.{byBool, clash, never}
+use Rattle.base.proofs.Cases.{by_bool, clash, never}
 use Rattle.number.specs.Stored.{value_of}
-use Rattle.catalogue.specs.Shapes.{rightLength, codeAllowed}
+use Rattle.catalogue.specs.Shapes.{right_length, code_allowed}
 use Rattle.packet.specs.Pieces.{Piece}
-use Rattle.packet.specs.Judge.{Knowing, has, among, Fault, clean, wrong, faultOf, Judged, fine, faulty, noVersion, later, judgeFrom, judge}
+use Rattle.packet.specs.Judge.{Knowing, has, among, Fault, clean, wrong, fault_of, Judged, fine, faulty, no_version, later, judge_from, judge}
 use Rattle.packet.specs.Allowed.{piece_at, Clean}
 
 -- a known item by itself, after the tags that were seen
 record Right (seen : List ℕ) (c : Piece) : Type 0 where
-  sized : rightLength c.tag (length c.value) ≡ true
+  sized : right_length c.tag (length c.value) ≡ true
   fresh : has c.tag seen ≡ false
-  coded : codeAllowed c.tag (length c.value) (value_of c.value) ≡ true
+  coded : code_allowed c.tag (length c.value) (value_of c.value) ≡ true
 
 module _ (K : Knowing) (seen : List ℕ) (c : Piece) where
-  clean-right : faultOf K (among seen) c ≡ clean → K c.tag ≡ true → Right seen c
-  unfolding faultOf rightLength
-  clean-right e k =
-      byBool (rightLength c.tag (length c.value))
-      (λ a. byBool (has c.tag seen)
+  clean_right : fault_of K (among seen) c ≡ clean → K c.tag ≡ true → Right seen c
+  unfolding fault_of right_length
+  clean_right e k =
+      by_bool (right_length c.tag (length c.value))
+      (λ a. by_bool (has c.tag seen)
       (λ b. let z : wrong 13 ≡ clean = rw (k, a, b) at e in never (cc))
-      (λ b. byBool (codeAllowed c.tag (length c.value) (value_of c.value))
+      (λ b. by_bool (code_allowed c.tag (length c.value) (value_of c.value))
       (λ d. record { sized = a; fresh = b; coded = d })
       (λ d. let z : wrong 14 ≡ clean = rw (k, a, b, d) at e in never (cc))))
       (λ a. let z : wrong 12 ≡ clean = rw (k, a) at e in never (cc))
 
-  right-clean : (K c.tag ≡ true → Right seen c) → faultOf K (among seen) c ≡ clean
-  unfolding faultOf rightLength
-  right-clean r = byBool (K c.tag) (λ k. rw (k, (r k).sized, (r k).fresh, (r k).coded)) (λ k. rw k)
+  right_clean : (K c.tag ≡ true → Right seen c) → fault_of K (among seen) c ≡ clean
+  unfolding fault_of right_length
+  right_clean r = by_bool (K c.tag) (λ k. rw (k, (r k).sized, (r k).fresh, (r k).coded)) (λ k. rw k)
 
 -- whether a tag is among others
 seen_one : (t u : ℕ) (us : List ℕ) → has t (u ∷ us) ≡ true → (t ≡ u) ⊎ (has t us ≡ true)
-seen_one t u us h = byBool (eqb t u) (λ e. inl (eqb-true t u e)) (λ e. inr (rw e at h))
+seen_one t u us h = by_bool (eqb t u) (λ e. inl (eqb-true t u e)) (λ e. inr (rw e at h))
 
-seen-not : (t u : ℕ) (us : List ℕ) → has t (u ∷ us) ≡ false → (t ≡ u → ⊥) × (has t us ≡ false)
-seen-not t u us h = byBool (eqb t u) (λ e. clash (rw e at h)) (λ e. (eqb-false t u e, rw e at h))
+seen_not : (t u : ℕ) (us : List ℕ) → has t (u ∷ us) ≡ false → (t ≡ u → ⊥) × (has t us ≡ false)
+seen_not t u us h = by_bool (eqb t u) (λ e. clash (rw e at h)) (λ e. (eqb-false t u e, rw e at h))
 
 seen_more : (t u : ℕ) (us : List ℕ) → has t us ≡ true → has t (u ∷ us) ≡ true
-seen_more t u us h = byBool (eqb t u) (λ e. rw e) (λ e. rw e h)
+seen_more t u us h = by_bool (eqb t u) (λ e. rw e) (λ e. rw e h)
 
 Present : List Piece → Type 0
 Present cs = (k : ℕ) × (k < length cs) × ((piece_at cs k).tag ≡ 65)
@@ -58,15 +58,15 @@ record CleanAfter (K : Knowing) (seen : List ℕ) (cs : List Piece) : Type 0 whe
   version : (has 65 seen ≡ true) ⊎ Present cs
 
 module _ (K : Knowing) where
-  clean-cons : (seen : List ℕ) (c : Piece) (cs : List Piece) → faultOf K (among seen) c ≡ clean → CleanAfter K (c.tag ∷ seen) cs → CleanAfter K seen (c ∷ cs)
+  clean_cons : (seen : List ℕ) (c : Piece) (cs : List Piece) → fault_of K (among seen) c ≡ clean → CleanAfter K (c.tag ∷ seen) cs → CleanAfter K seen (c ∷ cs)
   unfolding Present
-  clean-cons seen c cs e r = record { right = right; once = once; version = version }
+  clean_cons seen c cs e r = record { right = right; once = once; version = version }
     where
       apart : (k : ℕ) → k < length cs → K (piece_at cs k).tag ≡ true → ((piece_at cs k).tag ≡ c.tag → ⊥) × (has (piece_at cs k).tag seen ≡ false)
-      apart k h g = seen-not (piece_at cs k).tag c.tag seen (r.right k h g).fresh
+      apart k h g = seen_not (piece_at cs k).tag c.tag seen (r.right k h g).fresh
 
       right : (k : ℕ) → k < suc (length cs) → K (piece_at (c ∷ cs) k).tag ≡ true → Right seen (piece_at (c ∷ cs) k)
-      right zero h g = clean-right K seen c e g
+      right zero h g = clean_right K seen c e g
       right (suc k) h g =
           let x = r.right k (omega arith) g in
           record { sized = x.sized; fresh = (apart k (omega arith) g).1; coded = x.coded }
@@ -82,9 +82,9 @@ module _ (K : Knowing) where
           (λ a. ⊎_elim (λ b. inr (0, omega arith, sym b)) (λ b. inl b) (seen_one 65 c.tag seen a))
           (λ a. inr (suc a.0, suc-le-suc a.1, a.2)) r.version
 
-  cons-clean : (seen : List ℕ) (c : Piece) (cs : List Piece) → CleanAfter K seen (c ∷ cs) → CleanAfter K (c.tag ∷ seen) cs
+  cons_clean : (seen : List ℕ) (c : Piece) (cs : List Piece) → CleanAfter K seen (c ∷ cs) → CleanAfter K (c.tag ∷ seen) cs
   unfolding Present
-  cons-clean seen c cs r =
+  cons_clean seen c cs r =
       record {
         right = λ k h g.
             let x = r.right (suc k) (suc-le-suc h) g in
@@ -98,36 +98,36 @@ module _ (K : Knowing) where
       there zero h f = inl (rw (eq-eqb 65 c.tag (sym f)))
       there (suc k) h f = inr (k, omega arith, f)
 
-  fine-after : (seen : List ℕ) (cs : List Piece) → judgeFrom K seen cs ≡ fine → CleanAfter K seen cs
-  unfolding judgeFrom Present
-  fine-after seen [] e =
+  fine_after : (seen : List ℕ) (cs : List Piece) → judge_from K seen cs ≡ fine → CleanAfter K seen cs
+  unfolding judge_from Present
+  fine_after seen [] e =
       record {
         right = λ k h. absurd (omega arith);
         once = λ j k p h. absurd (omega arith);
-        version = inl (byBool (has 65 seen) (λ f. f) (λ f. let z : noVersion ≡ fine = rw f at e in never (cc)));
+        version = inl (by_bool (has 65 seen) (λ f. f) (λ f. let z : no_version ≡ fine = rw f at e in never (cc)));
       }
-  fine-after seen (c ∷ cs) e = go (faultOf K (among seen) c) refl (fine-after (c.tag ∷ seen) cs)
+  fine_after seen (c ∷ cs) e = go (fault_of K (among seen) c) refl (fine_after (c.tag ∷ seen) cs)
     where
       still : (j : Judged) → later j ≡ fine → j ≡ fine
       still fine f = refl
       still (faulty k n t) f = never (cc)
-      still noVersion f = never (cc)
+      still no_version f = never (cc)
 
-      go : (x : Fault) → faultOf K (among seen) c ≡ x → (judgeFrom K (c.tag ∷ seen) cs ≡ fine → CleanAfter K (c.tag ∷ seen) cs) → CleanAfter K seen (c ∷ cs)
-      go clean f rest = clean-cons seen c cs f (rest (still _ (rw f at e)))
+      go : (x : Fault) → fault_of K (among seen) c ≡ x → (judge_from K (c.tag ∷ seen) cs ≡ fine → CleanAfter K (c.tag ∷ seen) cs) → CleanAfter K seen (c ∷ cs)
+      go clean f rest = clean_cons seen c cs f (rest (still _ (rw f at e)))
       go (wrong n) f rest = let z : faulty zero n c.tag ≡ fine = rw f at e in never (cc)
 
-  after-fine : (seen : List ℕ) (cs : List Piece) → CleanAfter K seen cs → judgeFrom K seen cs ≡ fine
-  unfolding judgeFrom Present
-  after-fine seen [] r = ⊎_elim (λ a. rw a) (λ a. absurd (let h : a.0 < 0 = a.1 in omega arith)) r.version
-  after-fine seen (c ∷ cs) r = rw (right-clean K seen c (r.right 0 (omega arith)), after-fine (c.tag ∷ seen) cs (cons-clean seen c cs r))
+  after_fine : (seen : List ℕ) (cs : List Piece) → CleanAfter K seen cs → judge_from K seen cs ≡ fine
+  unfolding judge_from Present
+  after_fine seen [] r = ⊎_elim (λ a. rw a) (λ a. absurd (let h : a.0 < 0 = a.1 in omega arith)) r.version
+  after_fine seen (c ∷ cs) r = rw (right_clean K seen c (r.right 0 (omega arith)), after_fine (c.tag ∷ seen) cs (cons_clean seen c cs r))
 
   module _ (cs : List Piece) where
     -- what the judge finds fine is clean
-    pub fine-clean : judge K cs ≡ fine → Clean K cs
+    pub fine_clean : judge K cs ≡ fine → Clean K cs
     unfolding judge Present
-    fine-clean e =
-        let r = fine-after [] cs e in
+    fine_clean e =
+        let r = fine_after [] cs e in
         record {
           sized = λ k h g. (r.right k h g).sized;
           once = r.once;
@@ -136,10 +136,10 @@ module _ (K : Knowing) where
         }
 
     -- what is clean the judge finds fine
-    pub clean-fine : Clean K cs → judge K cs ≡ fine
+    pub clean_fine : Clean K cs → judge K cs ≡ fine
     unfolding judge Present
-    clean-fine r =
-        after-fine [] cs (record {
+    clean_fine r =
+        after_fine [] cs (record {
           right = λ k h g. record { sized = r.sized k h g; fresh = refl; coded = r.coded k h g };
           once = r.once;
           version = inr r.version;

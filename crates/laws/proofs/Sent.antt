@@ -9,30 +9,30 @@ use mathlib.Core.List.{List, [], ◌∷◌}
 use lib.ListN.{length, take, drop}
 use lib.Seq.{take_at, drop-drop}
 use lib.Arith.{digits_div, digits_mod}
-use Rattle.base.proofs.Cases.{byBool, byEq, clash}
+use Rattle.base.proofs.Cases.{by_bool, by_eq, clash}
 use Rattle.base.specs.Every.{Each}
 use Rattle.refusal.specs.Answer.{given}
 use Rattle.number.specs.Stored.{Bytes, value_of, bytes_of}
-use Rattle.number.proofs.Laws.{bytes_drop, bytes_take, length-bytesOf, spelled}
-use Rattle.catalogue.specs.Shapes.{shape_of, isListed, sizeAllowed, rightLength}
+use Rattle.number.proofs.Laws.{bytes_drop, bytes_take, length_bytes_of, spelled}
+use Rattle.catalogue.specs.Shapes.{shape_of, is_listed, size_allowed, right_length}
 use Rattle.catalogue.specs.declared.Shape.{Shape}
 use Rattle.catalogue.specs.declared.Shape.TheVariants.{Text, Number, Absent}
 use Rattle.tagset.specs.Sets.{holds}
 use Rattle.tagset.specs.declared.TagSet.{TagSet}
-use Rattle.rows.specs.Meaning.{shapeFor}
-use Rattle.rows.proofs.Laws.{code-seen}
+use Rattle.rows.specs.Meaning.{shape_for}
+use Rattle.rows.proofs.Laws.{code_seen}
 use Rattle.packet.specs.Pieces.{Piece, Item, pieces}
 use Rattle.packet.specs.Judge.{Knowing}
 use Rattle.packet.specs.Verdict.{verdict}
-use Rattle.packet.specs.Rows.{row_of, rows_of, Filled, readAnswer, readTable, rowsIn, bytes_at, rowValue, piece_of, pieces_of}
+use Rattle.packet.specs.Rows.{row_of, rows_of, Filled, read_answer, read_table, rows_in, bytes_at, row_value, piece_of, pieces_of}
 use Rattle.packet.specs.Encode.{encode, canonical}
 use Rattle.packet.specs.Allowed.{head_of, ItemsOf, no_more, another, Formed, piece_at}
-use Rattle.laws.proofs.Items.{pieceBytes, after-head, after-piece, piece-length}
-use Rattle.laws.proofs.Structure.{structure-formed, formed-length, formed-body}
-use Rattle.laws.proofs.Clean.{fine-clean}
+use Rattle.laws.proofs.Items.{piece_bytes, after_head, after_piece, piece_length}
+use Rattle.laws.proofs.Structure.{structure_formed, formed_length, formed_body}
+use Rattle.laws.proofs.Clean.{fine_clean}
 use Rattle.laws.proofs.Accepted.{accepts}
-use Rattle.laws.proofs.Tables.{has-read, read_count, rows-in-table}
-use Rattle.laws.proofs.Forward.{canonical-is, forward-shorter}
+use Rattle.laws.proofs.Tables.{has_read, read_count, rows_in_table}
+use Rattle.laws.proofs.Forward.{canonical_is, forward_shorter}
 
 -- an item lies in the packet where it says
 pub record Lies (p : List ℕ) (i : Item) : Type 0 where
@@ -44,100 +44,100 @@ items_lie : (p : List ℕ) {at : ℕ} {l : List ℕ} {is : List Item} → ItemsO
     → Each (Lies p) is
 items_lie p no_more e h k = tt
 items_lie p (another {at} c form rest some small f i) e h k =
-    let size = piece-length c form rest in
-    let dropped : (n : ℕ) → drop (at + n) p ≡ drop n (pieceBytes c form rest) = λ n. sym (drop-drop n at p) ∙ ap (drop n) (sym e) in (
+    let size = piece_length c form rest in
+    let dropped : (n : ℕ) → drop (at + n) p ≡ drop n (piece_bytes c form rest) = λ n. sym (drop-drop n at p) ∙ ap (drop n) (sym e) in (
       record {
-        there = sym (ap (take (length c.value)) (dropped (head_of c form) ∙ after-head c form rest) ∙ take_at c.value rest _ refl);
+        there = sym (ap (take (length c.value)) (dropped (head_of c form) ∙ after_head c form rest) ∙ take_at c.value rest _ refl);
         short = omega arith;
         inside = omega arith;
       },
-      items_lie p i (sym (dropped (head_of c form + length c.value) ∙ after-piece c form rest)) (omega arith) k,
+      items_lie p i (sym (dropped (head_of c form + length c.value) ∙ after_piece c form rest)) (omega arith) k,
     )
 
 -- all items of a packet do
-pub formed-lie : (p : List ℕ) (is : List Item) → Formed p is → Each (Lies p) is
-formed-lie p is f = items_lie p f.items (sym (formed-body p is f)) (omega (arith, formed-length p is f)) (omega (arith, f.small))
+pub formed_lie : (p : List ℕ) (is : List Item) → Formed p is → Each (Lies p) is
+formed_lie p is f = items_lie p f.items (sym (formed_body p is f)) (omega (arith, formed_length p is f)) (omega (arith, f.small))
 
 -- the bytes that an item's row points at are its value
 pub bytes_back : (K : Knowing) (p : List ℕ) (i : Item) → Lies p i → bytes_at p (row_of K i) ≡ i.piece.value
 unfolding row_of
 bytes_back K p i l = rw (digits_mod i.place l.short, digits_div i.place l.short) (sym l.there)
 
-pub lies-bytes : (p : List ℕ) (i : Item) → Bytes p → Lies p i → Bytes i.piece.value
-lies-bytes p i by l = rw l.there (bytes_take (length i.piece.value) (drop i.place p) (bytes_drop i.place by))
+pub lies_bytes : (p : List ℕ) (i : Item) → Bytes p → Lies p i → Bytes i.piece.value
+lies_bytes p i by l = rw l.there (bytes_take (length i.piece.value) (drop i.place p) (bytes_drop i.place by))
 
 -- the length is allowed where the tag is known
 abbrev pub SizedFor : Knowing → Piece → Type 0
-SizedFor K c = K c.tag ≡ true → rightLength c.tag (length c.value) ≡ true
+SizedFor K c = K c.tag ≡ true → right_length c.tag (length c.value) ≡ true
 
 -- by the shape that a receiver gives the tag
-pub shape-sized : (K : Knowing) (c : Piece) (s : Shape) → isListed s ≡ true → SizedFor K c → shapeFor K c.tag ≡ s
-    → sizeAllowed c.tag s (length c.value) ≡ true
-unfolding shapeFor rightLength
-shape-sized K c s l sized e =
-    byBool (K c.tag)
-    (λ k. let f : shape_of c.tag ≡ s = rw k at e in ap (λ x. sizeAllowed c.tag x (length c.value)) (sym f) ∙ sized k)
-    (λ k. let f : Absent ≡ s = rw k at e in clash (sym l ∙ ap isListed (sym f)))
+pub shape_sized : (K : Knowing) (c : Piece) (s : Shape) → is_listed s ≡ true → SizedFor K c → shape_for K c.tag ≡ s
+    → size_allowed c.tag s (length c.value) ≡ true
+unfolding shape_for right_length
+shape_sized K c s l sized e =
+    by_bool (K c.tag)
+    (λ k. let f : shape_of c.tag ≡ s = rw k at e in ap (λ x. size_allowed c.tag x (length c.value)) (sym f) ∙ sized k)
+    (λ k. let f : Absent ≡ s = rw k at e in clash (sym l ∙ ap is_listed (sym f)))
 
 -- what has no bytes is empty
 no_bytes : (v : List ℕ) → length v ≡ 0 → v ≡ []
 no_bytes [] z = refl
 no_bytes (x ∷ v) z = absurd (omega arith)
 
-pub none-spelled : (x : ℕ) → bytes_of 0 x ≡ []
-none-spelled x = no_bytes (bytes_of 0 x) (length-bytesOf 0 x)
+pub none_spelled : (x : ℕ) → bytes_of 0 x ≡ []
+none_spelled x = no_bytes (bytes_of 0 x) (length_bytes_of 0 x)
 
 -- a row's piece is the item's
 pub piece_back : (K : Knowing) (p : List ℕ) (i : Item) → Bytes p → Lies p i → piece_of K p (row_of K i) ≡ i.piece
 unfolding piece_of row_of
-piece_back K p i by l = ap (λ v. record { tag = i.piece.tag; value = v }) (back (shapeFor K i.piece.tag) refl)
+piece_back K p i by l = ap (λ v. record { tag = i.piece.tag; value = v }) (back (shape_for K i.piece.tag) refl)
   where
-    back : (s : Shape) → shapeFor K i.piece.tag ≡ s → rowValue s p (row_of K i) ≡ i.piece.value
+    back : (s : Shape) → shape_for K i.piece.tag ≡ s → row_value s p (row_of K i) ≡ i.piece.value
     back (Number least most marked) e =
         let v : List ℕ = i.piece.value in
-        byEq (length v) 0
-        (λ z. rw (digits_mod i.place l.short, z) (none-spelled _ ∙ sym (no_bytes v z)))
-        (λ some. rw (e, code-seen _ v least most marked (value_of v) some, digits_mod i.place l.short)
-        (spelled v (length v) (value_of v) (lies-bytes p i by l) refl refl))
+        by_eq (length v) 0
+        (λ z. rw (digits_mod i.place l.short, z) (none_spelled _ ∙ sym (no_bytes v z)))
+        (λ some. rw (e, code_seen _ v least most marked (value_of v) some, digits_mod i.place l.short)
+        (spelled v (length v) (value_of v) (lies_bytes p i by l) refl refl))
     back Text e = bytes_back K p i l
     back Absent e = bytes_back K p i l
 
-pieces-back : (K : Knowing) (p : List ℕ) (is : List Item) → Bytes p → Each (Lies p) is → pieces_of K p (rows_of K is) ≡ pieces is
+pieces_back : (K : Knowing) (p : List ℕ) (is : List Item) → Bytes p → Each (Lies p) is → pieces_of K p (rows_of K is) ≡ pieces is
 unfolding pieces_of rows_of
-pieces-back K p [] by l = refl
-pieces-back K p (i ∷ is) by l = rw (piece_back K p i by l.0, pieces-back K p is by l.1)
+pieces_back K p [] by l = refl
+pieces_back K p (i ∷ is) by l = rw (piece_back K p i by l.0, pieces_back K p is by l.1)
 
-each-sized : (K : Knowing) (cs : List Piece) → ((k : ℕ) → k < length cs → SizedFor K (piece_at cs k)) → Each (SizedFor K) cs
-each-sized K [] s = tt
-each-sized K (c ∷ cs) s = (s 0 (omega arith), each-sized K cs (λ k h. s (suc k) (omega arith)))
+each_sized : (K : Knowing) (cs : List Piece) → ((k : ℕ) → k < length cs → SizedFor K (piece_at cs k)) → Each (SizedFor K) cs
+each_sized K [] s = tt
+each_sized K (c ∷ cs) s = (s 0 (omega arith), each_sized K cs (λ k h. s (suc k) (omega arith)))
 
 -- a packet that a receiver accepts
 module _ (K : Knowing) (p : List ℕ) (is : List Item) (by : Bytes p) (e : verdict K p ≡ given is) where
-  pub accepted-sized : Each (SizedFor K) (pieces is)
-  accepted-sized = each-sized K (pieces is) (fine-clean K (pieces is) (accepts K p is e).faultless).sized
+  pub accepted_sized : Each (SizedFor K) (pieces is)
+  accepted_sized = each_sized K (pieces is) (fine_clean K (pieces is) (accepts K p is e).faultless).sized
 
-  pub accepted-lie : Each (Lies p) is
-  accepted-lie = formed-lie p is (structure-formed p is by (accepts K p is e).found)
+  pub accepted_lie : Each (Lies p) is
+  accepted_lie = formed_lie p is (structure_formed p is by (accepts K p is e).found)
 
   -- its rows, turned into pieces again, are its pieces
-  pub rows-pieces : pieces_of K p (rows_of K is) ≡ pieces is
-  rows-pieces = pieces-back K p is by accepted-lie
+  pub rows_pieces : pieces_of K p (rows_of K is) ≡ pieces is
+  rows_pieces = pieces_back K p is by accepted_lie
 
   -- so sending on gives the same bytes, whoever sends
   pub sent-on : encode (pieces_of K p (rows_of K is)) ≡ canonical p
-  sent-on = rw (rows-pieces, canonical-is p is by (accepts K p is e).found)
+  sent-on = rw (rows_pieces, canonical_is p is by (accepts K p is e).found)
 
 -- "sending on is reading and then writing all rows, the packet being the buffer": all rows that were read into the table t
-abbrev pub sentOn : TagSet → List ℕ → List ℕ → Filled → List ℕ
-sentOn K p t done = encode (pieces_of (holds K) p (rowsIn 0 done.count (readTable K p t)))
+abbrev pub sent_on : TagSet → List ℕ → List ℕ → Filled → List ℕ
+sent_on K p t done = encode (pieces_of (holds K) p (rows_in 0 done.count (read_table K p t)))
 
-module _ (K : TagSet) (p t : List ℕ) (done : Filled) (by : Bytes p) (e : readAnswer K p t ≡ given done) where
+module _ (K : TagSet) (p t : List ℕ) (done : Filled) (by : Bytes p) (e : read_answer K p t ≡ given done) where
   -- what is sent on does not depend on who sends
-  pub sent-canonical : sentOn K p t done ≡ canonical p
-  sent-canonical =
-      let r = has-read K p t done e in
-      rw (r.table, rows-in-table (holds K) r.items t done.count (read_count r)) (sent-on (holds K) p r.items by r.accepted)
+  pub sent_canonical : sent_on K p t done ≡ canonical p
+  sent_canonical =
+      let r = has_read K p t done e in
+      rw (r.table, rows_in_table (holds K) r.items t done.count (read_count r)) (sent-on (holds K) p r.items by r.accepted)
 
   -- and is never longer
-  pub sent-shorter : length (sentOn K p t done) ≤ length p
-  sent-shorter = let r = has-read K p t done e in rw sent-canonical (forward-shorter (holds K) p r.items by r.accepted)
+  pub sent_shorter : length (sent_on K p t done) ≤ length p
+  sent_shorter = let r = has_read K p t done e in rw sent_canonical (forward_shorter (holds K) p r.items by r.accepted)

@@ -9,55 +9,55 @@ use lib.Seq.{take_at}
 use Rattle.base.specs.Every.{Each}
 use Rattle.refusal.specs.Answer.{given}
 use Rattle.number.specs.Stored.{Bytes, bytes_of}
-use Rattle.number.proofs.Laws.{bytes-none, bytes-all, bytes-append, bytes_take, bytes-bytesOf, bytes_back, length-bytesOf}
-use Rattle.ber.specs.Written.{tagBytes, lengthBytes}
-use Rattle.ber.proofs.Laws.{length-form, length-bytes, tag-bytes}
-use Rattle.checksum.specs.Sum.{checksumOf}
-use Rattle.checksum.proofs.Laws.{checksum-small}
-use Rattle.catalogue.specs.Extended.{isExtended}
-use Rattle.catalogue.specs.Shapes.{codeAllowed}
+use Rattle.number.proofs.Laws.{bytes_none, bytes_all, bytes_append, bytes_take, bytes_bytes_of, bytes_back, length_bytes_of}
+use Rattle.ber.specs.Written.{tag_bytes, length_bytes}
+use Rattle.ber.proofs.Laws.{length_form, length-bytes, tag-bytes}
+use Rattle.checksum.specs.Sum.{checksum_of}
+use Rattle.checksum.proofs.Laws.{checksum_small}
+use Rattle.catalogue.specs.Extended.{is_extended}
+use Rattle.catalogue.specs.Shapes.{code_allowed}
 use Rattle.packet.specs.Pieces.{Piece, Item, pieces}
 use Rattle.packet.specs.Structure.{key, structure}
-use Rattle.packet.specs.Judge.{Knowing, fine, faultOf, judgeFrom, judge}
+use Rattle.packet.specs.Judge.{Knowing, fine, fault_of, judge_from, judge}
 use Rattle.packet.specs.Verdict.{placed, verdict}
-use Rattle.packet.specs.Encode.{itemBytes, itemsBytes, unsummed, beforeSum, summed, encode}
+use Rattle.packet.specs.Encode.{item_bytes, items_bytes, unsummed, before_sum, summed, encode}
 use Rattle.packet.specs.Allowed.{head_of, ItemsOf, no_more, another, Formed}
-use Rattle.laws.proofs.Structure.{length-key, formed-structure}
+use Rattle.laws.proofs.Structure.{length_key, formed_structure}
 
 -- a piece's size, with its length in the shortest form
-abbrev pub shortHead : Piece → ℕ
-shortHead c = head_of c (lengthBytes (length c.value))
+abbrev pub short_head : Piece → ℕ
+short_head c = head_of c (length_bytes (length c.value))
 
-pub length-item : (c : Piece) → length (itemBytes c) ≡ shortHead c + length c.value
-unfolding itemBytes
-length-item c = simp length-append (omega arith)
+pub length_item : (c : Piece) → length (item_bytes c) ≡ short_head c + length c.value
+unfolding item_bytes
+length_item c = simp length-append (omega arith)
 
-items-append : (cs ds : List Piece) → itemsBytes (cs ++ ds) ≡ itemsBytes cs ++ itemsBytes ds
-unfolding itemsBytes
-items-append [] ds = refl
-items-append (c ∷ cs) ds = rw (items-append cs ds, append_assoc)
+items_append : (cs ds : List Piece) → items_bytes (cs ++ ds) ≡ items_bytes cs ++ items_bytes ds
+unfolding items_bytes
+items_append [] ds = refl
+items_append (c ∷ cs) ds = rw (items_append cs ds, append_assoc)
 
 -- where pieces that are written from a place on stand
-unfoldable pub itemsAt : ℕ → List Piece → List Item
-itemsAt at [] = []
-itemsAt at (c ∷ cs) = record { start = at; place = at + shortHead c; piece = c } ∷ itemsAt (at + (shortHead c + length c.value)) cs
+unfoldable pub items_at : ℕ → List Piece → List Item
+items_at at [] = []
+items_at at (c ∷ cs) = record { start = at; place = at + short_head c; piece = c } ∷ items_at (at + (short_head c + length c.value)) cs
 
-pub pieces-at : (at : ℕ) (cs : List Piece) → pieces (itemsAt at cs) ≡ cs
-unfolding itemsAt
-pieces-at at [] = refl
-pieces-at at (c ∷ cs) = rw (pieces-at _ cs)
+pub pieces_at : (at : ℕ) (cs : List Piece) → pieces (items_at at cs) ≡ cs
+unfolding items_at
+pieces_at at [] = refl
+pieces_at at (c ∷ cs) = rw (pieces_at _ cs)
 
-pub length-pieces : (is : List Item) → length (pieces is) ≡ length is
-length-pieces [] = refl
-length-pieces (i ∷ is) = ap suc (length-pieces is)
+pub length_pieces : (is : List Item) → length (pieces is) ≡ length is
+length_pieces [] = refl
+length_pieces (i ∷ is) = ap suc (length_pieces is)
 
-at-append : (at : ℕ) (cs ds : List Piece) → itemsAt at (cs ++ ds) ≡ itemsAt at cs ++ itemsAt (at + length (itemsBytes cs)) ds
-unfolding itemsAt itemsBytes
-at-append at [] ds = ap (λ a. itemsAt a ds) (let e : at ≡ at + 0 = omega arith in e)
-at-append at (c ∷ cs) ds =
-    let e : at + (shortHead c + length c.value) + length (itemsBytes cs) ≡ at + length (itemBytes c ++ itemsBytes cs) =
-    omega (arith, length-append (itemBytes c) (itemsBytes cs), length-item c) in
-    rw (← e, at-append (at + (shortHead c + length c.value)) cs ds)
+at_append : (at : ℕ) (cs ds : List Piece) → items_at at (cs ++ ds) ≡ items_at at cs ++ items_at (at + length (items_bytes cs)) ds
+unfolding items_at items_bytes
+at_append at [] ds = ap (λ a. items_at a ds) (let e : at ≡ at + 0 = omega arith in e)
+at_append at (c ∷ cs) ds =
+    let e : at + (short_head c + length c.value) + length (items_bytes cs) ≡ at + length (item_bytes c ++ items_bytes cs) =
+    omega (arith, length-append (item_bytes c) (items_bytes cs), length_item c) in
+    rw (← e, at_append (at + (short_head c + length c.value)) cs ds)
 
 -- a tag that has a form
 pub record Tagged (c : Piece) : Type 0 where
@@ -65,50 +65,50 @@ pub record Tagged (c : Piece) : Type 0 where
   pub small : c.tag < 2097152
 
 -- pieces that are written fill their bytes
-items-written : (at : ℕ) (cs : List Piece) → Each Tagged cs → length (itemsBytes cs) < 2 ^ 32 → ItemsOf at (itemsBytes cs) (itemsAt at cs)
-unfolding itemsBytes itemBytes itemsAt
-items-written at [] t k = no_more
-items-written at (c ∷ cs) t k =
-    let form : List ℕ = lengthBytes (length c.value) in
-    let l = length-append (itemBytes c) (itemsBytes cs) in
-    let i = another {at = at} c form (itemsBytes cs) t.0.some t.0.small (length-form _ (omega (arith, l, length-item c)))
-    (items-written _ cs t.1 (omega (arith, l))) in
-    rw (append_assoc (tagBytes c.tag) (form ++ c.value) (itemsBytes cs), append_assoc form c.value (itemsBytes cs)) i
+items_written : (at : ℕ) (cs : List Piece) → Each Tagged cs → length (items_bytes cs) < 2 ^ 32 → ItemsOf at (items_bytes cs) (items_at at cs)
+unfolding items_bytes item_bytes items_at
+items_written at [] t k = no_more
+items_written at (c ∷ cs) t k =
+    let form : List ℕ = length_bytes (length c.value) in
+    let l = length-append (item_bytes c) (items_bytes cs) in
+    let i = another {at = at} c form (items_bytes cs) t.0.some t.0.small (length_form _ (omega (arith, l, length_item c)))
+    (items_written _ cs t.1 (omega (arith, l))) in
+    rw (append_assoc (tag_bytes c.tag) (form ++ c.value) (items_bytes cs), append_assoc form c.value (items_bytes cs)) i
 
 -- the checksum's piece
-abbrev pub sumPiece : List ℕ → Piece
-sumPiece v = record { tag = 1; value = v }
+abbrev pub sum_piece : List ℕ → Piece
+sum_piece v = record { tag = 1; value = v }
 
-sum-bytes : (v : List ℕ) → length v ≡ 2 → itemsBytes (sumPiece v ∷ []) ≡ (1 ∷ 2 ∷ []) ++ v
-unfolding itemsBytes itemBytes tagBytes lengthBytes
-sum-bytes v e = rw e (rw (append-nil v))
+sum_bytes : (v : List ℕ) → length v ≡ 2 → items_bytes (sum_piece v ∷ []) ≡ (1 ∷ 2 ∷ []) ++ v
+unfolding items_bytes item_bytes tag_bytes length_bytes
+sum_bytes v e = rw e (rw (append-nil v))
 
 -- the same pieces, the checksum's value aside
 pub data SameBut : List Piece → List Piece → Type 0 where
-  atLast : {v w : List ℕ} → length v ≡ length w → SameBut (sumPiece v ∷ []) (sumPiece w ∷ [])
+  at_last : {v w : List ℕ} → length v ≡ length w → SameBut (sum_piece v ∷ []) (sum_piece w ∷ [])
   further : {c : Piece} {cs ds : List Piece} → SameBut cs ds → SameBut (c ∷ cs) (c ∷ ds)
 
-same-but : (cs : List Piece) (v w : List ℕ) → length v ≡ length w → SameBut (cs ++ (sumPiece v ∷ [])) (cs ++ (sumPiece w ∷ []))
-same-but [] v w e = atLast e
-same-but (c ∷ cs) v w e = further (same-but cs v w e)
+same_but : (cs : List Piece) (v w : List ℕ) → length v ≡ length w → SameBut (cs ++ (sum_piece v ∷ [])) (cs ++ (sum_piece w ∷ []))
+same_but [] v w e = at_last e
+same_but (c ∷ cs) v w e = further (same_but cs v w e)
 
-but-tagged : {cs ds : List Piece} → SameBut cs ds → Each Tagged cs → Each Tagged ds
-but-tagged (atLast e) t = (record { some = omega arith; small = omega arith }, tt)
-but-tagged (further s) t = (t.0, but-tagged s t.1)
+but_tagged : {cs ds : List Piece} → SameBut cs ds → Each Tagged cs → Each Tagged ds
+but_tagged (at_last e) t = (record { some = omega arith; small = omega arith }, tt)
+but_tagged (further s) t = (t.0, but_tagged s t.1)
 
-pub but-length : {cs ds : List Piece} → SameBut cs ds → length cs ≡ length ds
-but-length (atLast e) = refl
-but-length (further s) = ap suc (but-length s)
+pub but_length : {cs ds : List Piece} → SameBut cs ds → length cs ≡ length ds
+but_length (at_last e) = refl
+but_length (further s) = ap suc (but_length s)
 
 -- nobody finds a fault in the checksum's value
-judge-but : (K : Knowing) (seen : List ℕ) {cs ds : List Piece} → SameBut cs ds → judgeFrom K seen cs ≡ judgeFrom K seen ds
-unfolding judgeFrom faultOf codeAllowed isExtended
-judge-but K seen (atLast e) = rw e
-judge-but K seen (further s) = rw (judge-but K (_ ∷ seen) s)
+judge_but : (K : Knowing) (seen : List ℕ) {cs ds : List Piece} → SameBut cs ds → judge_from K seen cs ≡ judge_from K seen ds
+unfolding judge_from fault_of code_allowed is_extended
+judge_but K seen (at_last e) = rw e
+judge_but K seen (further s) = rw (judge_but K (_ ∷ seen) s)
 
-pub judged-alike : (K : Knowing) {cs ds : List Piece} → SameBut cs ds → judge K cs ≡ judge K ds
+pub judged_alike : (K : Knowing) {cs ds : List Piece} → SameBut cs ds → judge K cs ≡ judge K ds
 unfolding judge
-judged-alike K s = judge-but K [] s
+judged_alike K s = judge_but K [] s
 
 -- pieces that can be sent as a packet: the rules of a packet that do not depend on who reads it
 pub record Sendable (cs : List Piece) : Type 0 where
@@ -133,47 +133,47 @@ between first last others (c ∷ middle) e a b = (middle, ap (λ x. x ∷ middle
 
 -- where the items of a written packet begin
 abbrev pub body_at : List Piece → ℕ
-body_at cs = 16 + length (lengthBytes (length (itemsBytes cs)))
+body_at cs = 16 + length (length_bytes (length (items_bytes cs)))
 
-length-unsummed : (cs : List Piece) → length (unsummed cs) ≡ body_at cs + length (itemsBytes cs)
+length_unsummed : (cs : List Piece) → length (unsummed cs) ≡ body_at cs + length (items_bytes cs)
 unfolding unsummed
-length-unsummed cs = simp (length-append, length-key) (omega arith)
+length_unsummed cs = simp (length-append, length_key) (omega arith)
 
-pub length-encode : (cs : List Piece) → length (encode cs) ≡ body_at cs + length (itemsBytes cs)
+pub length_encode : (cs : List Piece) → length (encode cs) ≡ body_at cs + length (items_bytes cs)
 unfolding encode summed
-length-encode cs = simp (length-append, length-take, length-bytesOf) (omega (arith, length-unsummed cs))
+length_encode cs = simp (length-append, length-take, length_bytes_of) (omega (arith, length_unsummed cs))
 
-summed-last : (b v : List ℕ) → length v ≡ 2 → summed (b ++ v) ≡ b ++ bytes_of 2 (checksumOf b)
+summed_last : (b v : List ℕ) → length v ≡ 2 → summed (b ++ v) ≡ b ++ bytes_of 2 (checksum_of b)
 unfolding summed
-summed-last b v e = rw (take_at b v (length (b ++ v) - 2) (omega (arith, length-append b v)))
+summed_last b v e = rw (take_at b v (length (b ++ v) - 2) (omega (arith, length-append b v)))
 
 -- pieces that end in a checksum of two bytes
 module _ (cs : List Piece) where
   -- all that is written before its value
-  upToSum : List ℕ
-  upToSum = key ++ (lengthBytes (length (itemsBytes cs) + 4) ++ (itemsBytes cs ++ (1 ∷ 2 ∷ [])))
+  up_to_sum : List ℕ
+  up_to_sum = key ++ (length_bytes (length (items_bytes cs) + 4) ++ (items_bytes cs ++ (1 ∷ 2 ∷ [])))
 
-  newSum : List ℕ
-  newSum = bytes_of 2 (checksumOf upToSum)
+  new_sum : List ℕ
+  new_sum = bytes_of 2 (checksum_of up_to_sum)
 
   -- the pieces that are found when they are read
   with_sum : List Piece
-  with_sum = cs ++ (sumPiece newSum ∷ [])
+  with_sum = cs ++ (sum_piece new_sum ∷ [])
 
-  pair-new : length newSum ≡ 2
-  unfolding newSum
-  pair-new = length-bytesOf 2 (checksumOf upToSum)
+  pair_new : length new_sum ≡ 2
+  unfolding new_sum
+  pair_new = length_bytes_of 2 (checksum_of up_to_sum)
 
-  length-sum : (v : List ℕ) → length v ≡ 2 → length (itemsBytes (cs ++ (sumPiece v ∷ []))) ≡ length (itemsBytes cs) + 4
-  length-sum v e = rw (items-append, length-append, sum-bytes v e) (omega arith)
+  length_sum : (v : List ℕ) → length v ≡ 2 → length (items_bytes (cs ++ (sum_piece v ∷ []))) ≡ length (items_bytes cs) + 4
+  length_sum v e = rw (items_append, length-append, sum_bytes v e) (omega arith)
 
-  unsummed-last : (v : List ℕ) → length v ≡ 2 → unsummed (cs ++ (sumPiece v ∷ [])) ≡ upToSum ++ v
-  unfolding unsummed upToSum
-  unsummed-last v e = rw (length-sum v e, items-append, sum-bytes v e) (simp append_assoc)
+  unsummed_last : (v : List ℕ) → length v ≡ 2 → unsummed (cs ++ (sum_piece v ∷ [])) ≡ up_to_sum ++ v
+  unfolding unsummed up_to_sum
+  unsummed_last v e = rw (length_sum v e, items_append, sum_bytes v e) (simp append_assoc)
 
-  encode-last : (v : List ℕ) → length v ≡ 2 → encode (cs ++ (sumPiece v ∷ [])) ≡ unsummed with_sum
-  unfolding encode newSum with_sum
-  encode-last v e = rw (unsummed-last v e, unsummed-last newSum pair-new) (summed-last upToSum v e)
+  encode_last : (v : List ℕ) → length v ≡ 2 → encode (cs ++ (sum_piece v ∷ [])) ≡ unsummed with_sum
+  unfolding encode new_sum with_sum
+  encode_last v e = rw (unsummed_last v e, unsummed_last new_sum pair_new) (summed_last up_to_sum v e)
 
 -- what is read of pieces that were written
 pub record ReadBack (cs : List Piece) : Type 0 where
@@ -183,8 +183,8 @@ pub record ReadBack (cs : List Piece) : Type 0 where
   pub same : SameBut cs (pieces items)
   pub again : encode (pieces items) ≡ encode cs
 
-sum_head : (v : List ℕ) → length v ≡ 2 → shortHead (sumPiece v) ≡ 2
-unfolding tagBytes lengthBytes
+sum_head : (v : List ℕ) → length v ≡ 2 → short_head (sum_piece v) ≡ 2
+unfolding tag_bytes length_bytes
 sum_head v e = rw e
 
 module _ (cs : List Piece) (s : Sendable cs) where
@@ -197,61 +197,61 @@ module _ (cs : List Piece) (s : Sendable cs) where
   front : List Piece
   front = s.first ∷ middle
 
-  whole : cs ≡ front ++ (sumPiece s.last.value ∷ [])
+  whole : cs ≡ front ++ (sum_piece s.last.value ∷ [])
   unfolding front middle
   whole =
-      let z : s.last ≡ sumPiece s.last.value = ap (λ t. record { tag = t; value = s.last.value }) s.checksum in
+      let z : s.last ≡ sum_piece s.last.value = ap (λ t. record { tag = t; value = s.last.value }) s.checksum in
       s.closes ∙ (ap (λ x. x ++ (s.last ∷ [])) split.1 ∙ ap (λ c. front ++ (c ∷ [])) z)
 
   found : List Piece
   found = with_sum front
 
-  found-same : SameBut cs found
+  found_same : SameBut cs found
   unfolding front found with_sum
-  found-same = subst (λ x. SameBut x found) (sym whole) (same-but front s.last.value (newSum front) (s.pair ∙ sym (pair-new front)))
+  found_same = subst (λ x. SameBut x found) (sym whole) (same_but front s.last.value (new_sum front) (s.pair ∙ sym (pair_new front)))
 
-  found-written : encode cs ≡ unsummed found
+  found_written : encode cs ≡ unsummed found
   unfolding front found
-  found-written = ap encode whole ∙ encode-last front s.last.value s.pair
+  found_written = ap encode whole ∙ encode_last front s.last.value s.pair
 
-  found-formed : Formed (unsummed found) (itemsAt (body_at found) found)
-  unfolding front found with_sum newSum unsummed itemsAt
-  found-formed =
-      let new : List ℕ = newSum front in
+  found_formed : Formed (unsummed found) (items_at (body_at found) found)
+  unfolding front found with_sum new_sum unsummed items_at
+  found_formed =
+      let new : List ℕ = new_sum front in
       let at : ℕ = body_at found in
-      let size = length-unsummed found in
-      let small : length (unsummed found) ≤ 8192 = rw found-written at s.fits in
-      let from : ℕ = at + length (itemsBytes front) in
-      let z : Item = record { start = from; place = from + shortHead (sumPiece new); piece = sumPiece new } in
-      let whole : unsummed found ≡ upToSum front ++ new = unsummed-last front new (pair-new front) in
-      let end : length (upToSum front) ≡ z.place = omega (
+      let size = length_unsummed found in
+      let small : length (unsummed found) ≤ 8192 = rw found_written at s.fits in
+      let from : ℕ = at + length (items_bytes front) in
+      let z : Item = record { start = from; place = from + short_head (sum_piece new); piece = sum_piece new } in
+      let whole : unsummed found ≡ up_to_sum front ++ new = unsummed_last front new (pair_new front) in
+      let end : length (up_to_sum front) ≡ z.place = omega (
         arith,
-        length-append (upToSum front) new,
+        length-append (up_to_sum front) new,
         ap length whole,
-        pair-new front,
+        pair_new front,
         size,
-        length-sum front new (pair-new front),
-        sum_head new (pair-new front),
+        length_sum front new (pair_new front),
+        sum_head new (pair_new front),
       ) in
       record {
         small = small;
-        form = lengthBytes (length (itemsBytes found));
-        body = itemsBytes found;
+        form = length_bytes (length (items_bytes found));
+        body = items_bytes found;
         whole = refl;
-        outer = length-form _ (omega arith);
-        items = items-written at found (but-tagged found-same s.tags) (omega arith);
-        few = omega (arith, but-length found-same, s.few, length-pieces (itemsAt at found), ap length (pieces-at at found));
-        first = record { start = at; place = at + shortHead s.first; piece = s.first };
-        others = itemsAt (at + (shortHead s.first + length s.first.value)) (middle ++ (sumPiece new ∷ []));
+        outer = length_form _ (omega arith);
+        items = items_written at found (but_tagged found_same s.tags) (omega arith);
+        few = omega (arith, but_length found_same, s.few, length_pieces (items_at at found), ap length (pieces_at at found));
+        first = record { start = at; place = at + short_head s.first; piece = s.first };
+        others = items_at (at + (short_head s.first + length s.first.value)) (middle ++ (sum_piece new ∷ []));
         begins = refl;
         time = s.time;
-        front = itemsAt at front;
+        front = items_at at front;
         last = z;
-        closes = at-append at front (sumPiece new ∷ []);
+        closes = at_append at front (sum_piece new ∷ []);
         checksum = refl;
-        pair = pair-new front;
-        sum = bytes_back 2 (checksumOf (upToSum front)) (checksum-small (upToSum front))
-            ∙ ap checksumOf (sym (ap (take z.place) whole ∙ take_at (upToSum front) new z.place end));
+        pair = pair_new front;
+        sum = bytes_back 2 (checksum_of (up_to_sum front)) (checksum_small (up_to_sum front))
+            ∙ ap checksum_of (sym (ap (take z.place) whole ∙ take_at (up_to_sum front) new z.place end));
       }
 
   -- what was written is read back: the same pieces, the checksum's value aside
@@ -259,39 +259,39 @@ module _ (cs : List Piece) (s : Sendable cs) where
   unfolding front found with_sum
   read_back =
       record {
-        items = itemsAt (body_at found) found;
-        formed = rw found-written found-formed;
-        read = ap structure found-written ∙ formed-structure _ _ found-formed;
-        same = rw (pieces-at (body_at found) found) found-same;
-        again = ap encode (pieces-at (body_at found) found) ∙ (encode-last front (newSum front) (pair-new front) ∙ sym found-written);
+        items = items_at (body_at found) found;
+        formed = rw found_written found_formed;
+        read = ap structure found_written ∙ formed_structure _ _ found_formed;
+        same = rw (pieces_at (body_at found) found) found_same;
+        again = ap encode (pieces_at (body_at found) found) ∙ (encode_last front (new_sum front) (pair_new front) ∙ sym found_written);
       }
 
   -- every receiver judges it by the pieces that were written
-  pub written-verdict : (K : Knowing) → verdict K (encode cs) ≡ placed read_back.items (judge K cs)
+  pub written_verdict : (K : Knowing) → verdict K (encode cs) ≡ placed read_back.items (judge K cs)
   unfolding verdict
-  written-verdict K = rw (read_back.read, judged-alike K read_back.same)
+  written_verdict K = rw (read_back.read, judged_alike K read_back.same)
 
   -- and accepts it where it finds no fault in them
-  pub written-accepted : (K : Knowing) → judge K cs ≡ fine → verdict K (encode cs) ≡ given read_back.items
-  written-accepted K e = written-verdict K ∙ ap (placed read_back.items) e
+  pub written_accepted : (K : Knowing) → judge K cs ≡ fine → verdict K (encode cs) ≡ given read_back.items
+  written_accepted K e = written_verdict K ∙ ap (placed read_back.items) e
 
 -- what was written is bytes
-items-bytes : (cs : List Piece) → Each Tagged cs → Each (λ c. Bytes c.value) cs → length (itemsBytes cs) < 2 ^ 32 → Bytes (itemsBytes cs)
-unfolding itemsBytes itemBytes
-items-bytes [] t b k = bytes-none
+items-bytes : (cs : List Piece) → Each Tagged cs → Each (λ c. Bytes c.value) cs → length (items_bytes cs) < 2 ^ 32 → Bytes (items_bytes cs)
+unfolding items_bytes item_bytes
+items-bytes [] t b k = bytes_none
 items-bytes (c ∷ cs) t b k =
-    let l = length-append (itemBytes c) (itemsBytes cs) in
-    bytes-append (itemBytes c) (itemsBytes cs)
-    (bytes-append (tagBytes c.tag) _ (tag-bytes c.tag t.0.some t.0.small)
-    (bytes-append (lengthBytes (length c.value)) c.value (length-bytes _ (omega (arith, l, length-item c))) b.0))
+    let l = length-append (item_bytes c) (items_bytes cs) in
+    bytes_append (item_bytes c) (items_bytes cs)
+    (bytes_append (tag_bytes c.tag) _ (tag-bytes c.tag t.0.some t.0.small)
+    (bytes_append (length_bytes (length c.value)) c.value (length-bytes _ (omega (arith, l, length_item c))) b.0))
     (items-bytes cs t.1 b.1 (omega (arith, l)))
 
-pub encode-bytes : (cs : List Piece) → Each Tagged cs → Each (λ c. Bytes c.value) cs → length (itemsBytes cs) < 2 ^ 32 → Bytes (encode cs)
+pub encode_bytes : (cs : List Piece) → Each Tagged cs → Each (λ c. Bytes c.value) cs → length (items_bytes cs) < 2 ^ 32 → Bytes (encode cs)
 unfolding encode summed unsummed
-encode-bytes cs t b k =
+encode_bytes cs t b k =
     let q : List ℕ = unsummed cs in
-    let all : Bytes q = bytes-append key _ key-bytes (bytes-append _ (itemsBytes cs) (length-bytes _ k) (items-bytes cs t b k)) in
-    bytes-append (beforeSum q) _ (bytes_take (length q - 2) q all) (bytes-bytesOf 2 (checksumOf (beforeSum q)))
+    let all : Bytes q = bytes_append key _ key_bytes (bytes_append _ (items_bytes cs) (length-bytes _ k) (items-bytes cs t b k)) in
+    bytes_append (before_sum q) _ (bytes_take (length q - 2) q all) (bytes_bytes_of 2 (checksum_of (before_sum q)))
   where
-    key-bytes : Bytes key
-    key-bytes = unfold key in bytes-all key refl
+    key_bytes : Bytes key
+    key_bytes = unfold key in bytes_all key refl

@@ -3,10 +3,10 @@ use Rattle.std.specs.Prelude.{ℕ, ◌≡◌, true, false, List}
 use Rattle.refusal.specs.Answer.{Answer, given, refused}
 use Rattle.tagset.specs.Sets.{meet}
 use Rattle.tagset.specs.declared.TagSet.{TagSet}
-use Rattle.rows.specs.Meaning.{carriedKind}
+use Rattle.rows.specs.Meaning.{carried_kind}
 use Rattle.rows.specs.declared.RowWords.{RowWords}
 use Rattle.packet.specs.Judge.{Knowing}
-use Rattle.packet.specs.Rows.{Filled, rowsIn, SameTable}
+use Rattle.packet.specs.Rows.{Filled, rows_in, SameTable}
 
 -- K' knows all that K knows
 abbrev pub Below : Knowing → Knowing → Type 0
@@ -19,7 +19,7 @@ pub record Only (K K' : Knowing) (t : ℕ) : Type 0 where
 
 -- the row of the same item, carried: code 0, the same place and length
 abbrev pub carried : RowWords → RowWords
-carried r = record { tag = r.tag; kind = carriedKind; code = 0; part = r.part }
+carried r = record { tag = r.tag; kind = carried_kind; code = 0; part = r.part }
 
 -- the row that K gives, beside the row that K' gives to the same item
 pub record SmallerRow (K : Knowing) (r r' : RowWords) : Type 0 where
@@ -27,11 +27,11 @@ pub record SmallerRow (K : Knowing) (r r' : RowWords) : Type 0 where
   pub unknown : K r'.tag ≡ false → r ≡ carried r'
 
 -- as many rows, and of the words what lies within a knowing set
-abbrev pub filledWithin : TagSet → Filled → Filled
-filledWithin K f = record { count = f.count; present = meet f.present K; withdrawn = meet f.withdrawn K }
+abbrev pub filled_within : TagSet → Filled → Filled
+filled_within K f = record { count = f.count; present = meet f.present K; withdrawn = meet f.withdrawn K }
 
 -- two readings up to places: the same refusal and tag, or the same count and the same table
 pub data SameReading (p q : List ℕ) : Answer Filled → List ℕ → Answer Filled → List ℕ → Type 0 where
-  bothRefuse : {n t a b : ℕ} {l m : List ℕ} → SameReading p q (refused n a t) l (refused n b t) m
-  bothRead : {done : Filled} {l m : List ℕ} → SameTable p q (rowsIn 0 done.count l) (rowsIn 0 done.count m)
+  both_refuse : {n t a b : ℕ} {l m : List ℕ} → SameReading p q (refused n a t) l (refused n b t) m
+  both_read : {done : Filled} {l m : List ℕ} → SameTable p q (rows_in 0 done.count l) (rows_in 0 done.count m)
       → SameReading p q (given done) l (given done) m

@@ -9,48 +9,48 @@ use lib.ListN.{length, replicate, length-append}
 use lib.Arith.{digits_div, digits_mod}
 use borrow.Author.Tests.{lt-leb, lt-ltb, le-ltb}
 use Rattle.base.specs.Every.{Each}
-use Rattle.base.specs.Putting.{putInto, Wrote}
+use Rattle.base.specs.Putting.{put_into, Wrote}
 use Rattle.refusal.specs.Numbers.{number}
 use Rattle.refusal.specs.Answer.{given, refused, refusal}
 use Rattle.refusal.specs.declared.Refusal.{Refusal}
 use Rattle.number.specs.Stored.{Bytes}
 use Rattle.tagset.specs.Sets.{holds}
 use Rattle.tagset.specs.declared.TagSet.{TagSet}
-use Rattle.catalogue.specs.Rows.{allTags}
+use Rattle.catalogue.specs.Rows.{all_tags}
 use Rattle.knowing.specs.Good.{good}
 use Rattle.rows.specs.declared.RowWords.{RowWords}
 use Rattle.packet.specs.Pieces.{Item}
 use Rattle.packet.specs.Judge.{Knowing}
 use Rattle.packet.specs.Allowed.{Formed}
 use Rattle.packet.specs.Verdict.{received, checked}
-use Rattle.packet.specs.Rows.{row_of, rows_of, rowsIn}
-use Rattle.laws.proofs.Accepted.{accepted-allowed}
-use Rattle.laws.proofs.Sent.{Lies, formed-lie}
+use Rattle.packet.specs.Rows.{row_of, rows_of, rows_in}
+use Rattle.laws.proofs.Accepted.{accepted_allowed}
+use Rattle.laws.proofs.Sent.{Lies, formed_lie}
 use Rattle.refusal.proofs.Answers.{passed}
-use Rattle.laws.proofs.Tables.{Received, has-received, received-refused, items-count}
-use Rattle.reader.specs.Reads.{Reads, readSaid}
+use Rattle.laws.proofs.Tables.{Received, has_received, received_refused, items_count}
+use Rattle.reader.specs.Reads.{Reads, read_said}
 use Rattle.reader.specs.declared.Reading.{Reading}
 use Rattle.reader.specs.declared.Reading.TheVariants as reading
 use Rattle.rows.specs.declared.Filled.{Filled}
 use Rattle.spelling.specs.Spelling.{decimal}
-use Rattle.listing.specs.Lines.{header, field, lines_of, refusedWord, refusedLine}
-use Rattle.listing.specs.Listing.{textBy, listingOf}
-use Rattle.listing.specs.Lists.{textAnswer, listSaid, Lists}
-use Rattle.listing.specs.Accepted.{listAnswer, listOutput, ListsAccepted}
+use Rattle.listing.specs.Lines.{header, field, lines_of, refused_word, refused_line}
+use Rattle.listing.specs.Listing.{text_by, listing_of}
+use Rattle.listing.specs.Lists.{text_answer, list_said, Lists}
+use Rattle.listing.specs.Accepted.{list_answer, list_output, ListsAccepted}
 use Rattle.listing.specs.code.Listable.{InPacket, Listable}
 use Rattle.listing.specs.declared.Listing.{Listing}
 use Rattle.listing.specs.declared.Listing.TheVariants as listing
 use Rattle.listing.proofs.Sizes.{rows_short}
 
 module _ {text o : List ℕ} {size : ℕ} (s : size ≡ length text) {r : Listing} where
-  pub does-not-fit : length o < size → listSaid r ≡ refused 18 0 0 → Lists text o r o
-  unfolding textAnswer putInto
-  does-not-fit h e =
+  pub does_not_fit : length o < size → list_said r ≡ refused 18 0 0 → Lists text o r o
+  unfolding text_answer put_into
+  does_not_fit h e =
       let k : length o < length text = rw s at h in
       record { answer = e ∙ rw (lt-ltb _ _ k); output = rw (zero-add, lt-leb _ _ k) }
 
-  pub fits : listSaid r ≡ given size → {n : ℕ} {o' : List ℕ} → Wrote o 0 text n o' → Lists text o r o'
-  unfolding textAnswer
+  pub fits : list_said r ≡ given size → {n : ℕ} {o' : List ℕ} → Wrote o 0 text n o' → Lists text o r o'
+  unfolding text_answer
   fits e w =
       let k : length text ≤ length o = omega arith in
       record { answer = e ∙ (ap given s ∙ rw (le-ltb _ _ k)); output = w.output }
@@ -59,10 +59,10 @@ pub rows_long : (p : List ℕ) (rs : List RowWords) {size : ℕ} → size ≡ le
 unfolding header
 rows_long p rs e = ap (λ k. 21 + k) e ∙ sym (length-append header (lines_of p rs))
 
-pub refusal-long : (n place t : ℕ) {a b c : ℕ} → a ≡ length (decimal n) → b ≡ length (decimal place) → c ≡ length (decimal t)
-    → a + b + c + 11 ≡ length (refusedLine n place t)
-unfolding refusedLine refusedWord field
-refusal-long n place t e f g =
+pub refusal_long : (n place t : ℕ) {a b c : ℕ} → a ≡ length (decimal n) → b ≡ length (decimal place) → c ≡ length (decimal t)
+    → a + b + c + 11 ≡ length (refused_line n place t)
+unfolding refused_line refused_word field
+refusal_long n place t e f g =
     rw (length-append, length-append, length-append, length-append, length-append, length-append) (omega arith)
 
 -- the rows of items that lie in the packet
@@ -73,49 +73,49 @@ rows_inside K p (i ∷ is) l =
     (rw (digits_div i.place l.0.short, digits_mod i.place l.0.short) l.0.inside, rows_inside K p is l.1)
 
 -- a receiver of the whole catalogue, with a table of its own
-module _ {K : TagSet} (k : K ≡ allTags) {p : List ℕ} {r : Reading} {t : List ℕ} (reads : Reads K p (replicate 512 0) r t) where
-  reads_all : Reads allTags p (replicate 512 0) r t
+module _ {K : TagSet} (k : K ≡ all_tags) {p : List ℕ} {r : Reading} {t : List ℕ} (reads : Reads K p (replicate 512 0) r t) where
+  reads_all : Reads all_tags p (replicate 512 0) r t
   reads_all = rw (← k) reads
 
   module _ {x : Refusal} (e : r ≡ reading.Refused x) where
-    refused-so : received allTags p ≡ refusal x
-    refused-so = received-refused allTags p (replicate 512 0) (omega arith) _ _ _ (sym reads_all.answer ∙ ap readSaid e)
+    refused_so : received all_tags p ≡ refusal x
+    refused_so = received_refused all_tags p (replicate 512 0) (omega arith) _ _ _ (sym reads_all.answer ∙ ap read_said e)
 
-    pub lists-refusal : refusedLine (number x.reason) x.place x.tag ≡ listingOf p
-    unfolding listingOf
-    lists-refusal = ap (textBy p) (sym refused-so)
+    pub lists_refusal : refused_line (number x.reason) x.place x.tag ≡ listing_of p
+    unfolding listing_of
+    lists_refusal = ap (text_by p) (sym refused_so)
 
-    pub refuses-list : (o : List ℕ) → ListsAccepted p o (listing.Refused x) o
-    unfolding listAnswer listOutput checked
-    refuses-list o = record { answer = rw refused-so; output = rw refused-so }
+    pub refuses_list : (o : List ℕ) → ListsAccepted p o (listing.Refused x) o
+    unfolding list_answer list_output checked
+    refuses_list o = record { answer = rw refused_so; output = rw refused_so }
 
   module _ {x : Filled} (e : r ≡ reading.Rows x) where
-    read : Received allTags p (replicate 512 0) x
-    read = has-received allTags p (replicate 512 0) x (sym reads_all.answer ∙ ap readSaid e)
+    read : Received all_tags p (replicate 512 0) x
+    read = has_received all_tags p (replicate 512 0) x (sym reads_all.answer ∙ ap read_said e)
 
-    same_rows : rowsIn 0 x.count t ≡ rows_of (holds allTags) read.items
-    same_rows = ap (rowsIn 0 x.count) reads_all.table ∙ read.rows
+    same_rows : rows_in 0 x.count t ≡ rows_of (holds all_tags) read.items
+    same_rows = ap (rows_in 0 x.count) reads_all.table ∙ read.rows
 
-    pub lists-rows : header ++ lines_of p (rowsIn 0 x.count t) ≡ listingOf p
-    unfolding listingOf
-    lists-rows = ap (λ rs. header ++ lines_of p rs) same_rows ∙ ap (textBy p) (sym read.accepted)
+    pub lists_rows : header ++ lines_of p (rows_in 0 x.count t) ≡ listing_of p
+    unfolding listing_of
+    lists_rows = ap (λ rs. header ++ lines_of p rs) same_rows ∙ ap (text_by p) (sym read.accepted)
 
-    pub lists-accepted : {o : List ℕ} {l : Listing} {o' : List ℕ} → Lists (header ++ lines_of p (rowsIn 0 x.count t)) o l o' → ListsAccepted p o l o'
-    unfolding listAnswer listOutput checked
-    lists-accepted {o} {l} {o'} h =
-        let g : Lists (listingOf p) o l o' = rw (← lists-rows) h in
+    pub lists_accepted : {o : List ℕ} {l : Listing} {o' : List ℕ} → Lists (header ++ lines_of p (rows_in 0 x.count t)) o l o' → ListsAccepted p o l o'
+    unfolding list_answer list_output checked
+    lists_accepted {o} {l} {o'} h =
+        let g : Lists (listing_of p) o l o' = rw (← lists_rows) h in
         record { answer = rw read.accepted g.answer; output = rw read.accepted g.output }
 
-    pub listable : Bytes p → Listable p (rowsIn 0 x.count t)
+    pub listable : Bytes p → Listable p (rows_in 0 x.count t)
     unfolding received
     listable by =
-        let K : Knowing = holds allTags in
-        let known = (passed (good allTags) _ 1 0 0 read.accepted).1 in
-        let f : Formed p read.items = (accepted-allowed K p read.items by known).formed in
+        let K : Knowing = holds all_tags in
+        let known = (passed (good all_tags) _ 1 0 0 read.accepted).1 in
+        let f : Formed p read.items = (accepted_allowed K p read.items by known).formed in
         rw same_rows
         (record {
-          inside = rows_inside K p read.items (formed-lie p read.items f);
-          few = rw (items-count K read.items) f.few;
+          inside = rows_inside K p read.items (formed_lie p read.items f);
+          few = rw (items_count K read.items) f.few;
           small = f.small;
-          short = rw (items-count K read.items) (rows_short K p f.small read.items f);
+          short = rw (items_count K read.items) (rows_short K p f.small read.items f);
         })

@@ -10,12 +10,12 @@ use lib.Dec.{leb}
 use lib.ListN.{length, length-append}
 use borrow.Author.Tests.{le-leb}
 use Rattle.base.specs.Every.{Each}
-use Rattle.base.specs.Putting.{putInto, Room, Wrote}
-use Rattle.base.proofs.Putting.{to_write, wrote-room, room-first, wrote-rest, wrote_nothing}
+use Rattle.base.specs.Putting.{put_into, Room, Wrote}
+use Rattle.base.proofs.Putting.{to_write, wrote_room, room_first, wrote_rest, wrote_nothing}
 use Rattle.rows.specs.declared.RowWords.{RowWords}
 use Rattle.rows.specs.Taken.{row_at}
-use Rattle.packet.specs.Rows.{rowsIn}
-use Rattle.laws.proofs.Tables.{rows-from, rows_none, rows-count}
+use Rattle.packet.specs.Rows.{rows_in}
+use Rattle.laws.proofs.Tables.{rows-from, rows_none, rows_count}
 use Rattle.listing.specs.Lines.{header, line_of, lines_of}
 use Rattle.listing.specs.code.Listable.{InPacket, Listable}
 
@@ -34,77 +34,77 @@ module _ (p : List ℕ) (r : RowWords) (rs : List RowWords) where
   unfolding lines_of
   both_long = length-append (line_of p r) (lines_of p rs)
 
-  one-counted : {size total : ℕ} → Uncounted p (r ∷ rs) size total → Uncounted p rs (size + length (line_of p r)) total
-  one-counted u = record { inside = u.inside.1; sum = omega (arith, u.sum, both_long) }
+  one_counted : {size total : ℕ} → Uncounted p (r ∷ rs) size total → Uncounted p rs (size + length (line_of p r)) total
+  one_counted u = record { inside = u.inside.1; sum = omega (arith, u.sum, both_long) }
 
   module _ {o : List ℕ} {at : ℕ} {x : List ℕ} {end : ℕ} (u : Unwritten p (r ∷ rs) o at x end) where
-    line-room : Room o at (line_of p r)
+    line_room : Room o at (line_of p r)
     unfolding lines_of
-    line-room = room-first (lines_of p rs) (wrote-room u.rest)
+    line_room = room_first (lines_of p rs) (wrote_room u.rest)
 
     one_written : {m : ℕ} {o₁ : List ℕ} → Wrote o at (line_of p r) m o₁ → Unwritten p rs o₁ m x end
     unfolding lines_of
-    one_written w = record { inside = u.inside.1; rest = wrote-rest w u.rest }
+    one_written w = record { inside = u.inside.1; rest = wrote_rest w u.rest }
 
 -- the rows of a table from the one numbered n on
 module _ (p words : List ℕ) (n count : ℕ) where
   abbrev left : List RowWords
-  left = rowsIn n (count - n) words
+  left = rows_in n (count - n) words
 
   abbrev after : List RowWords
-  after = rowsIn (n + 1) (count - (n + 1)) words
+  after = rows_in (n + 1) (count - (n + 1)) words
 
   module _ {size total : ℕ} (u : Uncounted p left size total) where
-    pub all-counted : count ≤ n → size ≡ total
+    pub all_counted : count ≤ n → size ≡ total
     unfolding lines_of
-    all-counted h = let v : Uncounted p [] size total = rw (rows_none words n count h) at u in omega (arith, v.sum)
+    all_counted h = let v : Uncounted p [] size total = rw (rows_none words n count h) at u in omega (arith, v.sum)
 
     module _ (h : n < count) (r : RowWords) (e : r ≡ row_at words n) where
-      this-uncounted : Uncounted p (r ∷ after) size total
-      this-uncounted = rw e (rw (rows-from words n count h) at u)
+      this_uncounted : Uncounted p (r ∷ after) size total
+      this_uncounted = rw e (rw (rows-from words n count h) at u)
 
-      pub to-count : InPacket p r
-      to-count = this-uncounted.inside.0
+      pub to_count : InPacket p r
+      to_count = this_uncounted.inside.0
 
       pub counted : (line : ℕ) → line ≡ length (line_of p r) → Uncounted p after (size + line) total
-      counted line f = rw f (one-counted p r after this-uncounted)
+      counted line f = rw f (one_counted p r after this_uncounted)
 
       pub within : (line : ℕ) → line ≡ length (line_of p r) → size + line ≤ total
-      within line f = omega (arith, f, this-uncounted.sum, both_long p r after)
+      within line f = omega (arith, f, this_uncounted.sum, both_long p r after)
 
   module _ {o : List ℕ} {at : ℕ} {x : List ℕ} {end : ℕ} (u : Unwritten p left o at x end) where
-    pub all-written : count ≤ n → (end ≡ at) × (x ≡ o)
+    pub all_written : count ≤ n → (end ≡ at) × (x ≡ o)
     unfolding lines_of
-    all-written h = let v : Unwritten p [] o at x end = rw (rows_none words n count h) at u in wrote_nothing v.rest
+    all_written h = let v : Unwritten p [] o at x end = rw (rows_none words n count h) at u in wrote_nothing v.rest
 
     module _ (h : n < count) (r : RowWords) (e : r ≡ row_at words n) where
-      this-unwritten : Unwritten p (r ∷ after) o at x end
-      this-unwritten = rw e (rw (rows-from words n count h) at u)
+      this_unwritten : Unwritten p (r ∷ after) o at x end
+      this_unwritten = rw e (rw (rows-from words n count h) at u)
 
-      pub line-asks : InPacket p r × Room o at (line_of p r)
-      line-asks = (this-unwritten.inside.0, line-room p r after this-unwritten)
+      pub line_asks : InPacket p r × Room o at (line_of p r)
+      line_asks = (this_unwritten.inside.0, line_room p r after this_unwritten)
 
       pub written : {m : ℕ} {o₁ : List ℕ} → Wrote o at (line_of p r) m o₁ → Unwritten p after o₁ m x end
-      written w = one_written p r after this-unwritten w
+      written w = one_written p r after this_unwritten w
 
 -- all rows are left
-module _ (p words : List ℕ) (count : ℕ) (l : Listable p (rowsIn 0 count words)) where
-  pub none-counted : Uncounted p (rowsIn 0 (count - 0) words) 0 (length (lines_of p (rowsIn 0 count words)))
-  none-counted = rw sub-zero (record { inside = l.inside; sum = omega arith })
+module _ (p words : List ℕ) (count : ℕ) (l : Listable p (rows_in 0 count words)) where
+  pub none_counted : Uncounted p (rows_in 0 (count - 0) words) 0 (length (lines_of p (rows_in 0 count words)))
+  none_counted = rw sub-zero (record { inside = l.inside; sum = omega arith })
 
   abbrev lines : List ℕ
-  lines = lines_of p (rowsIn 0 count words)
+  lines = lines_of p (rows_in 0 count words)
 
-  pub lines-few : count ≤ 128
-  lines-few = rw (rows-count 0 count words) at l.few
+  pub lines_few : count ≤ 128
+  lines_few = rw (rows_count 0 count words) at l.few
 
-  lines-most : length (header ++ lines) ≤ 21 + 42 * count + 2 * length p
+  lines_most : length (header ++ lines) ≤ 21 + 42 * count + 2 * length p
   unfolding header
-  lines-most = let s = rw (rows-count 0 count words) at l.short in rw length-append (omega arith)
+  lines_most = let s = rw (rows_count 0 count words) at l.short in rw length-append (omega arith)
 
-  pub lines-within : (room : ℕ) → 21 + 42 * count + 2 * length p ≤ room → leb (length (header ++ lines)) room ≡ true
-  lines-within room h = le-leb _ _ (le_trans lines-most h)
+  pub lines_within : (room : ℕ) → 21 + 42 * count + 2 * length p ≤ room → leb (length (header ++ lines)) room ≡ true
+  lines_within room h = le-leb _ _ (le_trans lines_most h)
 
   pub none_written : {o : List ℕ} {from : ℕ} → Room o from lines
-      → Unwritten p (rowsIn 0 (count - 0) words) o from (putInto o from lines) (from + length lines)
+      → Unwritten p (rows_in 0 (count - 0) words) o from (put_into o from lines) (from + length lines)
   none_written h = rw sub-zero (record { inside = l.inside; rest = to_write h })

@@ -4,12 +4,12 @@ ghost use Rattle.std.specs.Prelude.{◌≡◌, ◌++◌, leb, length};
 ghost use Rattle.base.specs.Putting.{Room, Wrote};
 ghost use Rattle.refusal.specs.Numbers.{number};
 ghost use Rattle.refusal.specs.Answer.{refused};
-ghost use Rattle.packet.specs.Rows.{rowsIn, bytes_at};
-ghost use Rattle.scale.specs.Conversions.{toHouse};
+ghost use Rattle.packet.specs.Rows.{rows_in, bytes_at};
+ghost use Rattle.scale.specs.Conversions.{to_house};
 ghost use Rattle.spelling.specs.Spelling.{decimal, hex};
-ghost use Rattle.listing.specs.Lines.{header, field, numberText, contentText, line_of, lines_of, refusedLine};
-ghost use Rattle.listing.specs.Listing.{listingOf};
-ghost use Rattle.listing.specs.Lists.{Lists, listSaid};
+ghost use Rattle.listing.specs.Lines.{header, field, number_text, content_text, line_of, lines_of, refused_line};
+ghost use Rattle.listing.specs.Listing.{listing_of};
+ghost use Rattle.listing.specs.Lists.{Lists, list_said};
 ghost use Rattle.listing.specs.Accepted.{ListsAccepted};
 ghost use Rattle.listing.specs.code.Listable.{InPacket, Listable};
 
@@ -35,7 +35,7 @@ pub enum Listing {
 
 // How many characters a reading has: in house units where scaled, else its code.
 fn number_size(tag: u64, bytes: usize, code: u64) -> usize
-    ensures { result ≡ length (numberText (toHouse tag bytes code) code) }
+    ensures { result ≡ length (number_text (to_house tag bytes code) code) }
 {
     match scale::to_house(tag, bytes, code) {
         ToHouse::Is(house) => spelling::whole_size(house.value),
@@ -46,7 +46,7 @@ fn number_size(tag: u64, bytes: usize, code: u64) -> usize
 // How many a row's kind and value have, with the tab between them.
 fn content_size(packet: &[u8], row: RowWords) -> usize
     requires { InPacket packet.now row }
-    ensures { result ≡ length (contentText packet.now row) }
+    ensures { result ≡ length (content_text packet.now row) }
 {
     let bytes = (row.part % 65536) as usize;
     if row.kind == rows::READING {
@@ -74,8 +74,8 @@ fn line_size(packet: &[u8], row: RowWords) -> usize
 }
 
 fn lines_size(packet: &[u8], words: &[u64], count: usize) -> usize
-    requires { Listable packet.now (rowsIn 0 count words.now) }
-    ensures { result ≡ length (lines_of packet.now (rowsIn 0 count words.now)) }
+    requires { Listable packet.now (rows_in 0 count words.now) }
+    ensures { result ≡ length (lines_of packet.now (rows_in 0 count words.now)) }
 {
     let mut size: usize = 0;
     let mut n: usize = 0;
@@ -113,8 +113,8 @@ fn put_field(out: &mut [u8], at: usize, n: u64) -> usize
 
 // A reading: in house units where scaled, else its code.
 fn put_number(out: &mut [u8], at: usize, tag: u64, bytes: usize, code: u64) -> usize
-    requires { Room out.old at (numberText (toHouse tag bytes code) code) }
-    ensures { Wrote out.old at (numberText (toHouse tag bytes code) code) result out.new }
+    requires { Room out.old at (number_text (to_house tag bytes code) code) }
+    ensures { Wrote out.old at (number_text (to_house tag bytes code) code) result out.new }
 {
     match scale::to_house(tag, bytes, code) {
         ToHouse::Is(house) => at + spelling::put_whole(out, at, house.value),
@@ -135,8 +135,8 @@ fn put_value(out: &mut [u8], at: usize, packet: &[u8], row: RowWords) -> usize
 
 // A row's kind and value, with the tab between them.
 fn put_content(out: &mut [u8], at: usize, packet: &[u8], row: RowWords) -> usize
-    requires { InPacket packet.now row × Room out.old at (contentText packet.now row) }
-    ensures { Wrote out.old at (contentText packet.now row) result out.new }
+    requires { InPacket packet.now row × Room out.old at (content_text packet.now row) }
+    ensures { Wrote out.old at (content_text packet.now row) result out.new }
 {
     if row.kind == rows::READING {
         let value = put_word(out, at, b"number\t");
@@ -168,8 +168,8 @@ fn put_line(out: &mut [u8], at: usize, packet: &[u8], row: RowWords) -> usize
 }
 
 fn put_lines(out: &mut [u8], from: usize, packet: &[u8], words: &[u64], count: usize) -> usize
-    requires { Listable packet.now (rowsIn 0 count words.now) × Room out.old from (lines_of packet.now (rowsIn 0 count words.now)) }
-    ensures { Wrote out.old from (lines_of packet.now (rowsIn 0 count words.now)) result out.new }
+    requires { Listable packet.now (rows_in 0 count words.now) × Room out.old from (lines_of packet.now (rows_in 0 count words.now)) }
+    ensures { Wrote out.old from (lines_of packet.now (rows_in 0 count words.now)) result out.new }
 {
     let mut at = from;
     let mut n: usize = 0;
@@ -182,7 +182,7 @@ fn put_lines(out: &mut [u8], from: usize, packet: &[u8], words: &[u64], count: u
 }
 
 fn too_short() -> Listing
-    ensures { listSaid result ≡ refused 18 0 0 }
+    ensures { list_said result ≡ refused 18 0 0 }
 {
     Listing::Refused(Refusal {
         reason: Reason::OutputTooShort,
@@ -193,8 +193,8 @@ fn too_short() -> Listing
 
 // Whether the header and the lines fit: by the most that so many lines take, and only where that is more than there is by their size.
 fn lines_fit(packet: &[u8], words: &[u64], count: usize, room: usize) -> bool
-    requires { Listable packet.now (rowsIn 0 count words.now) }
-    ensures { result ≡ leb (length (header ++ lines_of packet.now (rowsIn 0 count words.now))) room }
+    requires { Listable packet.now (rows_in 0 count words.now) }
+    ensures { result ≡ leb (length (header ++ lines_of packet.now (rows_in 0 count words.now))) room }
 {
     let most = 21 + 42 * count + 2 * packet.len();
     if most <= room {
@@ -206,8 +206,8 @@ fn lines_fit(packet: &[u8], words: &[u64], count: usize, room: usize) -> bool
 
 // The header and a line for each row.
 fn list_rows(packet: &[u8], words: &[u64], count: usize, out: &mut [u8]) -> Listing
-    requires { Listable packet.now (rowsIn 0 count words.now) }
-    ensures { Lists (header ++ lines_of packet.now (rowsIn 0 count words.now)) out.old result out.new }
+    requires { Listable packet.now (rows_in 0 count words.now) }
+    ensures { Lists (header ++ lines_of packet.now (rows_in 0 count words.now)) out.old result out.new }
 {
     let fit = lines_fit(packet, words, count, out.len());
     if !fit {
@@ -219,8 +219,8 @@ fn list_rows(packet: &[u8], words: &[u64], count: usize, out: &mut [u8]) -> List
 }
 
 fn put_refusal(out: &mut [u8], n: u64, place: u64, tag: u64) -> usize
-    requires { Room out.old 0 (refusedLine n place tag) }
-    ensures { Wrote out.old 0 (refusedLine n place tag) result out.new }
+    requires { Room out.old 0 (refused_line n place tag) }
+    ensures { Wrote out.old 0 (refused_line n place tag) result out.new }
 {
     let first = put_word(out, 0, b"refused\t");
     let second = put_field(out, first, n);
@@ -231,7 +231,7 @@ fn put_refusal(out: &mut [u8], n: u64, place: u64, tag: u64) -> usize
 
 // The one line of a refusal.
 fn list_refusal(refusal: Refusal, out: &mut [u8]) -> Listing
-    ensures { Lists (refusedLine (number refusal.reason) refusal.place refusal.tag) out.old result out.new }
+    ensures { Lists (refused_line (number refusal.reason) refusal.place refusal.tag) out.old result out.new }
 {
     let reason = refusal.reason;
     let n = refusal::number_of(reason);
@@ -249,7 +249,7 @@ fn list_refusal(refusal: Refusal, out: &mut [u8]) -> Listing
 // Lists a packet for a reader of the whole catalogue. An output that is too short is left as it was, and so are its bytes after the
 // listing.
 pub fn list(packet: &[u8], out: &mut [u8]) -> Listing
-    ensures { Lists (listingOf packet.now) out.old result out.new }
+    ensures { Lists (listing_of packet.now) out.old result out.new }
 {
     let mut table = [0u64; 512];
     match reader::read(packet, catalogue::all_tags(), &mut table) {

@@ -11,11 +11,11 @@ use Rattle.number.proofs.value.Reads as value-reads
 use Rattle.number.proofs.put.Kinds as put-kinds
 use Rattle.number.proofs.put.Reads as put_reads
 
-pub value-determined : Answered 1 value-kinds.ps value-kinds.r value-reads.Post
-value-determined κs a z z' e e' p q = p ∙ sym q
+pub value_determined : Answered 1 value-kinds.ps value-kinds.r value-reads.Post
+value_determined κs a z z' e e' p q = p ∙ sym q
 
-pub wide-determined : Answered 0 wide-kinds.ps wide-kinds.r wide-reads.Post
-wide-determined κs a z z' e e' p q = p.0 ∙ sym q.0
+pub wide_determined : Answered 0 wide-kinds.ps wide-kinds.r wide-reads.Post
+wide_determined κs a z z' e e' p q = p.0 ∙ sym q.0
 
-pub put-determined : Determined 1 put-kinds.ps put-kinds.r put_reads.Post (List ℕ) (λ κs e. e.0.now)
-put-determined κs a z z' e e' p q = (refl, p ∙ sym q)
+pub put_determined : Determined 1 put-kinds.ps put-kinds.r put_reads.Post (List ℕ) (λ κs e. e.0.now)
+put_determined κs a z z' e e' p q = (refl, p ∙ sym q)

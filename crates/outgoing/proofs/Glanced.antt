@@ -13,99 +13,99 @@ use Rattle.refusal.specs.Answer.{given}
 use Rattle.tagset.specs.Sets.{holds, with_tag, meet}
 use Rattle.tagset.specs.declared.TagSet.{TagSet}
 use Rattle.tagset.proofs.Laws.{Words}
-use Rattle.tagset.proofs.Meeting.{meet-with}
-use Rattle.catalogue.specs.Extended.{isExtended, perTwoMetres, inReach}
-use Rattle.catalogue.specs.Shapes.{shape_of, shapeAllows, is_empty, codeAllowed}
+use Rattle.tagset.proofs.Meeting.{meet_with}
+use Rattle.catalogue.specs.Extended.{is_extended, per_two_metres, in_reach}
+use Rattle.catalogue.specs.Shapes.{shape_of, shape_allows, is_empty, code_allowed}
 use Rattle.catalogue.specs.declared.Shape.{Shape}
 use Rattle.catalogue.specs.declared.Shape.TheVariants.{Text, Number, Absent}
-use Rattle.catalogue.proofs.Columns.{extended-in, extended-shape, extended-code, reach-allowed}
-use Rattle.rows.specs.Meaning.{shapeFor}
+use Rattle.catalogue.proofs.Columns.{extended_in, extended_shape, extended-code, reach_allowed}
+use Rattle.rows.specs.Meaning.{shape_for}
 use Rattle.rows.specs.declared.RowWords.{RowWords}
-use Rattle.rows.specs.Taken.{tagGood, codeGood, partLength, rowGood, valueRowGood}
-use Rattle.rows.specs.Present.{isPresent, with_row}
-use Rattle.packet.specs.Rows.{rowsIn}
+use Rattle.rows.specs.Taken.{tag_good, code_good, part_length, row_good, value_row_good}
+use Rattle.rows.specs.Present.{is_present, with_row}
+use Rattle.packet.specs.Rows.{rows_in}
 use Rattle.outgoing.specs.Outgoing.{agrees}
-use Rattle.outgoing.specs.code.Staged.{rowSize, rowsSize, packedBy, rowFault, sizedBy}
+use Rattle.outgoing.specs.code.Staged.{row_size, rows_size, packed_by, row_fault, sized_by}
 use Rattle.outgoing.specs.code.Glance.{PlainAs, Plain, PlainRows, PlainEnds, FitsPlainly}
 use Rattle.outgoing.specs.declared.Packed.{Packed}
 use Rattle.outgoing.specs.declared.Handed.{Handed}
-use Rattle.outgoing.proofs.Carried.{clean-present}
+use Rattle.outgoing.proofs.Carried.{clean_present}
 
 -- an extended height: a code within reach is not too wide for its length
-reach-narrow : (n c : ℕ) → 2 ≤ n → 2 * c ≤ 40900 * perTwoMetres n → c < 2 ^ (8 * n)
-reach-narrow n c some h =
+reach_narrow : (n c : ℕ) → 2 ≤ n → 2 * c ≤ 40900 * per_two_metres n → c < 2 ^ (8 * n)
+reach_narrow n c some h =
     let k : 8 * n ≡ 8 * n - 16 + 16 = omega arith in
-    let e : 2 ^ (8 * n) ≡ perTwoMetres n * 2 ^ 16 = ap (λ m. 2 ^ m) k ∙ pow-add 2 (8 * n - 16) 16 in
+    let e : 2 ^ (8 * n) ≡ per_two_metres n * 2 ^ 16 = ap (λ m. 2 ^ m) k ∙ pow-add 2 (8 * n - 16) 16 in
     omega (arith, e, pow_pos (8 * n - 16))
 
-height-tag : (r : RowWords) → isExtended r.tag ≡ true → tagGood r.tag ≡ true
-height-tag r x =
-    let e = extended-in r.tag x in
+height_tag : (r : RowWords) → is_extended r.tag ≡ true → tag_good r.tag ≡ true
+height_tag r x =
+    let e = extended_in r.tag x in
     rw (lt-ltb 0 r.tag (omega (arith, e.0)), lt-ltb r.tag 2097152 (omega (arith, e.1)))
 
-module _ (r : RowWords) (x : isExtended r.tag ≡ true) (kind : r.kind ≡ 1) (reach : inReach (partLength r.part) r.code ≡ true) where
-  reach-good : codeGood r.tag (partLength r.part) r.code ≡ true
-  unfolding inReach
-  reach-good =
-      let n : ℕ = partLength r.part in
+module _ (r : RowWords) (x : is_extended r.tag ≡ true) (kind : r.kind ≡ 1) (reach : in_reach (part_length r.part) r.code ≡ true) where
+  reach_good : code_good r.tag (part_length r.part) r.code ≡ true
+  unfolding in_reach
+  reach_good =
+      let n : ℕ = part_length r.part in
       let rest = both_right (leb 2 n) _ reach in
-      let small = reach-narrow n r.code (leb-true 2 n (both_left (leb 2 n) _ reach)) (leb-true _ _ (both_right (leb n 4) _ rest)) in
-      let other : r.tag ≡ 1 → ⊥ = λ e. omega (arith, (extended-in r.tag x).0) in
+      let small = reach_narrow n r.code (leb-true 2 n (both_left (leb 2 n) _ reach)) (leb-true _ _ (both_right (leb n 4) _ rest)) in
+      let other : r.tag ≡ 1 → ⊥ = λ e. omega (arith, (extended_in r.tag x).0) in
       rw (ne_eqb r.tag 1 other, lt-ltb r.code (2 ^ (8 * n)) small)
 
-  pub height-plain : (room bytes : ℕ) → bytes ≡ rowSize r → PlainAs (shape_of r.tag) room r bytes
-  unfolding rowGood inReach
-  height-plain room bytes size =
-      let n : ℕ = partLength r.part in
-      let shape = extended-shape r.tag x in
+  pub height_plain : (room bytes : ℕ) → bytes ≡ row_size r → PlainAs (shape_of r.tag) room r bytes
+  unfolding row_good in_reach
+  height_plain room bytes size =
+      let n : ℕ = part_length r.part in
+      let shape = extended_shape r.tag x in
       let some = ne_eqb n 0 (λ z. omega (arith, leb-true 2 n (both_left (leb 2 n) _ reach))) in
-      let allowed = rw shape at (reach-allowed r.tag x n r.code reach) in
-      let coded : codeAllowed r.tag n r.code ≡ true = extended-code r.tag x n r.code ∙ rw some reach in
+      let allowed = rw shape at (reach_allowed r.tag x n r.code reach) in
+      let coded : code_allowed r.tag n r.code ≡ true = extended-code r.tag x n r.code ∙ rw some reach in
       record {
-        good = rw (shape, kind, some) (both_true _ _ (height-tag r x) (both_true _ _ allowed reach-good));
+        good = rw (shape, kind, some) (both_true _ _ (height_tag r x) (both_true _ _ allowed reach_good));
         right = rw (shape, coded, some, allowed);
         size = size;
       }
 
 -- a row of some bytes
-has-bytes : (s : Shape) (n : ℕ) → (n ≡ 0 → ⊥) → is_empty s n ≡ false
-has-bytes Text n some = ne_eqb n 0 some
-has-bytes (Number least most marked) n some = ne_eqb n 0 some
-has-bytes Absent n some = refl
+has_bytes : (s : Shape) (n : ℕ) → (n ≡ 0 → ⊥) → is_empty s n ≡ false
+has_bytes Text n some = ne_eqb n 0 some
+has_bytes (Number least most marked) n some = ne_eqb n 0 some
+has_bytes Absent n some = refl
 
-pub value-plain : (s : Shape) (room : ℕ) (r : RowWords) (bytes : ℕ) → (partLength r.part ≡ 0 → ⊥) → valueRowGood s room r ≡ true
-    → shapeAllows s (partLength r.part) ≡ true → codeAllowed r.tag (partLength r.part) r.code ≡ true → bytes ≡ rowSize r → PlainAs s room r bytes
-unfolding rowGood valueRowGood
-value-plain s room r bytes some good allowed coded size =
-    let full = has-bytes s (partLength r.part) some in
+pub value_plain : (s : Shape) (room : ℕ) (r : RowWords) (bytes : ℕ) → (part_length r.part ≡ 0 → ⊥) → value_row_good s room r ≡ true
+    → shape_allows s (part_length r.part) ≡ true → code_allowed r.tag (part_length r.part) r.code ≡ true → bytes ≡ row_size r → PlainAs s room r bytes
+unfolding row_good value_row_good
+value_plain s room r bytes some good allowed coded size =
+    let full = has_bytes s (part_length r.part) some in
     record { good = rw full good; right = rw (full, allowed, coded); size = size }
 
 -- a row, known and the first of its tag, or carried
 module _ (K seen : TagSet) (room : ℕ) (r : RowWords) {bytes : ℕ} where
-  pub known-plain : (s : Shape) → s ≡ shape_of r.tag → holds K r.tag ≡ true → holds seen r.tag ≡ false
+  pub known_plain : (s : Shape) → s ≡ shape_of r.tag → holds K r.tag ≡ true → holds seen r.tag ≡ false
       → PlainAs s room r bytes → Plain K seen room r bytes
-  unfolding shapeFor rowFault
-  known-plain s e k first p =
+  unfolding shape_for row_fault
+  known_plain s e k first p =
       record {
         good = rw (k, ← e) p.good;
         right = rw (k, first, ← e) p.right;
         size = p.size;
       }
 
-  pub carried-plain : holds K r.tag ≡ false → valueRowGood Absent room r ≡ true → bytes ≡ rowSize r → Plain K seen room r bytes
-  unfolding shapeFor rowFault rowGood valueRowGood
-  carried-plain k g e = record { good = rw k g; right = rw k; size = e }
+  pub carried_plain : holds K r.tag ≡ false → value_row_good Absent room r ≡ true → bytes ≡ row_size r → Plain K seen room r bytes
+  unfolding shape_for row_fault row_good value_row_good
+  carried_plain k g e = record { good = rw k g; right = rw k; size = e }
 
   -- its bit is among the known tags seen just where the rows' words get it
-  pub plain-words : Words K → Words seen → Plain K seen room r bytes → with_row isPresent (meet seen K) r ≡ meet (with_tag seen r.tag) K
-  plain-words k s p = rw (clean-present K seen room r p.good p.right) (sym (meet-with seen K s k r.tag))
+  pub plain_words : Words K → Words seen → Plain K seen room r bytes → with_row is_present (meet seen K) r ≡ meet (with_tag seen r.tag) K
+  plain_words k s p = rw (clean_present K seen room r p.good p.right) (sym (meet_with seen K s k r.tag))
 
 -- the whole table
 pub all_plain : (K : TagSet) (h : Handed) (room count : ℕ) (words : List ℕ) {seen : TagSet} {items : ℕ} {p : Packed}
-    → holds seen 65 ≡ true → agrees h (meet seen K) ≡ true → PlainRows K room (rowsIn 0 count words) seen items → PlainEnds count words items p
+    → holds seen 65 ≡ true → agrees h (meet seen K) ≡ true → PlainRows K room (rows_in 0 count words) seen items → PlainEnds count words items p
     → FitsPlainly K h room count words p
 all_plain K h room count words {p = p} version agreed rows ends =
-    let packed : p ≡ packedBy (rowsSize (rowsIn 0 count words)) = ends.packed ∙ ap packedBy rows.size in
+    let packed : p ≡ packed_by (rows_size (rows_in 0 count words)) = ends.packed ∙ ap packed_by rows.size in
     let judged = rw version at rows.right in
-    let fits : sizedBy K count words p ≡ given p = rw (ends.small, ends.right, judged) in
-    record { good = rows.good; fits = rw (rows.words, agreed) (ap (sizedBy K count words) (sym packed) ∙ fits) }
+    let fits : sized_by K count words p ≡ given p = rw (ends.small, ends.right, judged) in
+    record { good = rows.good; fits = rw (rows.words, agreed) (ap (sized_by K count words) (sym packed) ∙ fits) }

@@ -4,6 +4,6 @@ use Rattle.outgoing.specs.declared.Packed.{Packed}
 use Rattle.outgoing.specs.declared.Outgoing.{Outgoing}
 use Rattle.outgoing.specs.declared.Outgoing.TheVariants.{Fits, Refused}
 
-abbrev pub outgoingSaid : Outgoing → Answer Packed
-outgoingSaid (Fits p) = given p
-outgoingSaid (Refused r) = refusal r
+abbrev pub outgoing_said : Outgoing → Answer Packed
+outgoing_said (Fits p) = given p
+outgoing_said (Refused r) = refusal r

@@ -4,18 +4,18 @@ ghost use Rattle.std.specs.Prelude.{◌≡◌, true, ℕ, ◌^◌, ◌<◌, ◌�
 ghost use Rattle.refusal.specs.Numbers.{number};
 ghost use Rattle.refusal.specs.Answer.{refused as refusedBy, map};
 ghost use Rattle.tagset.specs.Sets.{holds};
-ghost use Rattle.catalogue.specs.Extended.{isExtended};
+ghost use Rattle.catalogue.specs.Extended.{is_extended};
 ghost use Rattle.catalogue.specs.Shapes.{shape_of};
-ghost use Rattle.catalogue.specs.code.Column.{shapeColumn};
-ghost use Rattle.rows.specs.Present.{presentIn};
-ghost use Rattle.rows.specs.Taken.{partLength};
-ghost use Rattle.packet.specs.Said.{faultSaid};
-ghost use Rattle.packet.specs.Said.{rightSaid};
-ghost use Rattle.packet.specs.Rows.{rowsIn};
-ghost use Rattle.outgoing.specs.Outgoing.{rightRows, agrees, outgoingWith, packedOf};
-ghost use Rattle.outgoing.specs.code.Staged.{rowSize, rowsSize, packedBy, rowFault, judgedIn, endsIn, closed_in, sizedIn, toldIn};
+ghost use Rattle.catalogue.specs.code.Column.{shape_column};
+ghost use Rattle.rows.specs.Present.{present_in};
+ghost use Rattle.rows.specs.Taken.{part_length};
+ghost use Rattle.packet.specs.Said.{fault_said};
+ghost use Rattle.packet.specs.Said.{right_said};
+ghost use Rattle.packet.specs.Rows.{rows_in};
+ghost use Rattle.outgoing.specs.Outgoing.{right_rows, agrees, outgoing_with, packed_of};
+ghost use Rattle.outgoing.specs.code.Staged.{row_size, rows_size, packed_by, row_fault, judged_in, ends_in, closed_in, sized_in, told_in};
 ghost use Rattle.outgoing.specs.code.Glance.{PlainAs, Plain, PlainRows, PlainEnds, FitsPlainly};
-ghost use Rattle.outgoing.specs.Said.{outgoingSaid};
+ghost use Rattle.outgoing.specs.Said.{outgoing_said};
 
 use catalogue::Shape;
 use packet::{Ends, Fault, Looked, Right};
@@ -44,15 +44,15 @@ pub enum Handed {
 }
 
 fn refused(reason: Reason, place: usize, tag: u64) -> Outgoing
-    ensures { outgoingSaid result ≡ refusedBy (number reason) place tag }
+    ensures { outgoing_said result ≡ refusedBy (number reason) place tag }
 {
     Outgoing::Refused(Refusal { reason, place, tag })
 }
 
 // No row is bad, or the refusal of the first that is.
 fn rows_right(column: &[u8; 128], known: TagSet, count: usize, words: &[u64], room: usize) -> Right
-    requires { column.now ≡ shapeColumn }
-    ensures { rightSaid result ≡ rightRows (holds known) room 0 (rowsIn 0 count words.now) }
+    requires { column.now ≡ shape_column }
+    ensures { right_said result ≡ right_rows (holds known) room 0 (rows_in 0 count words.now) }
 {
     let mut n: usize = 0;
     while n < count {
@@ -83,7 +83,7 @@ fn words_right(handed: Handed, present: TagSet) -> bool
 
 // The words of the rows, by a scan: a bit for each that is not carried.
 fn present_of(count: usize, words: &[u64]) -> TagSet
-    ensures { result ≡ presentIn (rowsIn 0 count words.now) }
+    ensures { result ≡ present_in (rows_in 0 count words.now) }
 {
     let mut present = TagSet { low: 0, high: 0 };
     let mut n: usize = 0;
@@ -99,7 +99,7 @@ fn present_of(count: usize, words: &[u64]) -> TagSet
 
 // Whether they are the rows' own; where nothing was handed, no row is looked at.
 fn rows_agree(handed: Handed, count: usize, words: &[u64]) -> bool
-    ensures { result ≡ agrees handed (presentIn (rowsIn 0 count words.now)) }
+    ensures { result ≡ agrees handed (present_in (rows_in 0 count words.now)) }
 {
     match handed {
         Handed::Nothing => true,
@@ -109,7 +109,7 @@ fn rows_agree(handed: Handed, count: usize, words: &[u64]) -> bool
 
 // How many bytes a row's item has.
 fn row_size(row: RowWords) -> usize
-    ensures { result ≡ rowSize row }
+    ensures { result ≡ row_size row }
 {
     let length = row.part % 65536;
     ber::tag_size(row.tag) + ber::length_size(length) + length as usize
@@ -118,7 +118,7 @@ fn row_size(row: RowWords) -> usize
 // And all items together.
 fn rows_size(count: usize, words: &[u64]) -> usize
     requires { count ≤ 128 }
-    ensures { result ≡ rowsSize (rowsIn 0 count words.now) }
+    ensures { result ≡ rows_size (rows_in 0 count words.now) }
 {
     let mut size: usize = 0;
     let mut n: usize = 0;
@@ -132,7 +132,7 @@ fn rows_size(count: usize, words: &[u64]) -> usize
 // And the packet: key, length, items.
 fn packet_size(items: usize) -> Packed
     requires { items < 2 ^ 32 }
-    ensures { result ≡ packedBy items }
+    ensures { result ≡ packed_by items }
 {
     let size = 16 + ber::length_size(items as u64) + items;
     Packed { size, items }
@@ -140,8 +140,8 @@ fn packet_size(items: usize) -> Packed
 
 // What is wrong with a row for a receiver: nothing where it does not know the tag.
 fn fault_at(column: &[u8; 128], known: TagSet, seen: TagSet, row: RowWords) -> Fault
-    requires { column.now ≡ shapeColumn }
-    ensures { faultSaid result ≡ rowFault known seen row }
+    requires { column.now ≡ shape_column }
+    ensures { fault_said result ≡ row_fault known seen row }
 {
     let tag = row.tag;
     if tagset::has(known, tag) {
@@ -161,8 +161,8 @@ fn fault_at(column: &[u8; 128], known: TagSet, seen: TagSet, row: RowWords) -> F
 
 // Row by row the faults of known items, then item 65.
 fn judged(column: &[u8; 128], known: TagSet, count: usize, words: &[u64]) -> Right
-    requires { column.now ≡ shapeColumn }
-    ensures { rightSaid result ≡ judgedIn known count words.now }
+    requires { column.now ≡ shape_column }
+    ensures { right_said result ≡ judged_in known count words.now }
 {
     let mut seen = TagSet { low: 0, high: 0 };
     let mut n: usize = 0;
@@ -194,7 +194,7 @@ fn judged(column: &[u8; 128], known: TagSet, count: usize, words: &[u64]) -> Rig
 
 // The first and the last row, by their numbers.
 fn ends_of(count: usize, words: &[u64]) -> Ends
-    ensures { result ≡ endsIn count words.now }
+    ensures { result ≡ ends_in count words.now }
 {
     if count == 0 {
         return Ends {
@@ -225,8 +225,8 @@ fn closed(
     words: &[u64],
     packed: Packed,
 ) -> Outgoing
-    requires { column.now ≡ shapeColumn }
-    ensures { outgoingSaid result ≡ closed_in known count words.now packed }
+    requires { column.now ≡ shape_column }
+    ensures { outgoing_said result ≡ closed_in known count words.now packed }
 {
     match packet::check_ends(ends_of(count, words)) {
         Right::Refused(refusal) => Outgoing::Refused(refusal),
@@ -239,8 +239,8 @@ fn closed(
 
 // The total size before that.
 fn sized(column: &[u8; 128], known: TagSet, count: usize, words: &[u64]) -> Outgoing
-    requires { (column.now ≡ shapeColumn) × (count ≤ 128) }
-    ensures { outgoingSaid result ≡ sizedIn known count words.now }
+    requires { (column.now ≡ shape_column) × (count ≤ 128) }
+    ensures { outgoing_said result ≡ sized_in known count words.now }
 {
     let packed = packet_size(rows_size(count, words));
     if 8192 < packed.size {
@@ -251,8 +251,8 @@ fn sized(column: &[u8; 128], known: TagSet, count: usize, words: &[u64]) -> Outg
 
 // The words handed before that.
 fn told(column: &[u8; 128], known: TagSet, handed: Handed, count: usize, words: &[u64]) -> Outgoing
-    requires { (column.now ≡ shapeColumn) × (count ≤ 128) }
-    ensures { outgoingSaid result ≡ toldIn known handed count words.now }
+    requires { (column.now ≡ shape_column) × (count ≤ 128) }
+    ensures { outgoing_said result ≡ told_in known handed count words.now }
 {
     if rows_agree(handed, count, words) {
         return sized(column, known, count, words);
@@ -282,7 +282,7 @@ fn known_size(shape: Shape, room: usize, row: RowWords) -> usize
 
 // The same of a row of some bytes.
 fn value_size(shape: Shape, room: usize, row: RowWords) -> usize
-    requires { partLength row.part ≡ 0 → ⊥ }
+    requires { part_length row.part ≡ 0 → ⊥ }
     ensures { 0 < result → PlainAs shape room row result }
 {
     let size = (row.part % 65536) as usize;
@@ -298,7 +298,7 @@ fn value_size(shape: Shape, room: usize, row: RowWords) -> usize
 
 // The same of a row of an extended height, whatever the buffer: a code within reach has a right length and is not too wide for it.
 fn height_size(row: RowWords) -> usize
-    requires { isExtended row.tag ≡ true }
+    requires { is_extended row.tag ≡ true }
     ensures { (room : ℕ) → 0 < result → PlainAs (shape_of row.tag) room row result }
 {
     if row.kind == rows::READING {
@@ -313,7 +313,7 @@ fn height_size(row: RowWords) -> usize
 // The same of any row, for a receiver that has seen some tags; numbers by themselves, which most rows are, so that their tests go by a shape that is
 // settled and stand in the walk.
 fn plain_size(column: &[u8; 128], known: TagSet, seen: TagSet, room: usize, row: RowWords) -> usize
-    requires { column.now ≡ shapeColumn }
+    requires { column.now ≡ shape_column }
     ensures { 0 < result → Plain known seen room row result }
 {
     let tag = row.tag;
@@ -367,8 +367,8 @@ fn rows_at_a_glance(
     words: &[u64],
     room: usize,
 ) -> Glance
-    requires { (column.now ≡ shapeColumn) × (count ≤ 128) }
-    ensures { result.right ≡ true → PlainRows known room (rowsIn 0 count words.now) result.seen result.items }
+    requires { (column.now ≡ shape_column) × (count ≤ 128) }
+    ensures { result.right ≡ true → PlainRows known room (rows_in 0 count words.now) result.seen result.items }
 {
     let mut seen = TagSet { low: 0, high: 0 };
     let mut items: usize = 0;
@@ -418,7 +418,7 @@ fn at_a_glance(
     words: &[u64],
     room: usize,
 ) -> Packed
-    requires { (column.now ≡ shapeColumn) × (count ≤ 128) }
+    requires { (column.now ≡ shape_column) × (count ≤ 128) }
     ensures { 0 < result.size → FitsPlainly known handed room count words.now result }
 {
     let glance = rows_at_a_glance(column, known, count, words, room);
@@ -442,7 +442,7 @@ pub fn check_rows(
     words: &[u64],
     buffer: &[u8],
 ) -> Outgoing
-    ensures { outgoingSaid result ≡ map packedOf (outgoingWith known handed count words.now buffer.now) }
+    ensures { outgoing_said result ≡ map packed_of (outgoing_with known handed count words.now buffer.now) }
 {
     if knowing::is_good(known) {
         if rows::is_good_count(count, words.len()) {

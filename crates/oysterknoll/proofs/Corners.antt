@@ -6,20 +6,20 @@ use mathlib.Core.Bool.{true, false}
 use mathlib.Core.List.{List}
 use Rattle.refusal.specs.Answer.{Answer, given, refused}
 use Rattle.tagset.specs.declared.TagSet.{TagSet}
-use Rattle.ground.specs.Earth.{beyondPole, in_range}
-use Rattle.ground.specs.Ground.{CornerSeen, noCorner, offTheEarth, on, cornerOf}
-use Rattle.ground.proofs.OnEarth.{corner-on-earth}
-use Rattle.oysterknoll.specs.Answers.{cornerAnswer}
+use Rattle.ground.specs.Earth.{beyond_pole, in_range}
+use Rattle.ground.specs.Ground.{CornerSeen, no_corner, off_the_earth, on, corner_of}
+use Rattle.ground.proofs.OnEarth.{corner_on_earth}
+use Rattle.oysterknoll.specs.Answers.{corner_answer}
 use Rattle.oysterknoll.specs.declared.CornerAnswer.{CornerAnswer}
 
 abbrev pub Drawable : CornerAnswer → Type 0
-Drawable r = (beyondPole r.latitude ≡ false) × (in_range r.longitude ≡ true)
+Drawable r = (beyond_pole r.latitude ≡ false) × (in_range r.longitude ≡ true)
 
-pub corner-drawable : (k : ℕ) (K : TagSet) (p : List ℕ) → Drawable (cornerAnswer (cornerOf k K p))
-corner-drawable k K p = go (cornerOf k K p) refl
+pub corner_drawable : (k : ℕ) (K : TagSet) (p : List ℕ) → Drawable (corner_answer (corner_of k K p))
+corner_drawable k K p = go (corner_of k K p) refl
   where
-    go : (a : Answer CornerSeen) → cornerOf k K p ≡ a → Drawable (cornerAnswer a)
-    go (given noCorner) e = (refl, refl)
-    go (given offTheEarth) e = (refl, refl)
-    go (given (on a b)) e = corner-on-earth k K p a b e
+    go : (a : Answer CornerSeen) → corner_of k K p ≡ a → Drawable (corner_answer a)
+    go (given no_corner) e = (refl, refl)
+    go (given off_the_earth) e = (refl, refl)
+    go (given (on a b)) e = corner_on_earth k K p a b e
     go (refused n place tag) e = (refl, refl)

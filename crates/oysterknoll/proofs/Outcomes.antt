@@ -39,53 +39,53 @@ use Rattle.oysterknoll.proofs.oyk_item.Reads as item-reads
 use Rattle.oysterknoll.proofs.oyk_list.Kinds as list-kinds
 use Rattle.oysterknoll.proofs.oyk_list.Reads as list-reads
 
-pub check-determined : Answered 1 check-kinds.ps check-kinds.r check-reads.Post
-check-determined κs a z z' e e' p q = p ∙ sym q
+pub check_determined : Answered 1 check-kinds.ps check-kinds.r check-reads.Post
+check_determined κs a z z' e e' p q = p ∙ sym q
 
-pub read-determined : Determined 2 read-kinds.ps read-kinds.r read-reads.Post (List ℕ) (λ κs e. e.1.1.1.0.now)
-read-determined κs a z z' e e' p q = (p.0 ∙ sym q.0, p.1 ∙ sym q.1)
+pub read_determined : Determined 2 read-kinds.ps read-kinds.r read-reads.Post (List ℕ) (λ κs e. e.1.1.1.0.now)
+read_determined κs a z z' e e' p q = (p.0 ∙ sym q.0, p.1 ∙ sym q.1)
 
-pub take-row-determined : Answered 2 take-row-kinds.ps take-row-kinds.r take-row-reads.Post
-take-row-determined κs a z z' e e' p q = p ∙ sym q
+pub take_row_determined : Answered 2 take-row-kinds.ps take-row-kinds.r take-row-reads.Post
+take_row_determined κs a z z' e e' p q = p ∙ sym q
 
-pub write-determined : Determined 3 write-kinds.ps write-kinds.r write-reads.Post (List ℕ) (λ κs e. e.1.1.1.1.1.0.now)
-write-determined κs a z z' e e' p q = (p.0 ∙ sym q.0, p.1 ∙ sym q.1)
+pub write_determined : Determined 3 write-kinds.ps write-kinds.r write-reads.Post (List ℕ) (λ κs e. e.1.1.1.1.1.0.now)
+write_determined κs a z z' e e' p q = (p.0 ∙ sym q.0, p.1 ∙ sym q.1)
 
-pub write-with-determined : Determined 3 write-with-kinds.ps write-with-kinds.r write-with-reads.Post (List ℕ) (λ κs e. e.1.1.1.1.1.1.1.0.now)
-write-with-determined κs a z z' e e' p q = (p.0 ∙ sym q.0, p.1 ∙ sym q.1)
+pub write_with_determined : Determined 3 write-with-kinds.ps write-with-kinds.r write-with-reads.Post (List ℕ) (λ κs e. e.1.1.1.1.1.1.1.0.now)
+write_with_determined κs a z z' e e' p q = (p.0 ∙ sym q.0, p.1 ∙ sym q.1)
 
-pub has-determined : Answered 0 has-kinds.ps has-kinds.r has-reads.Post
-has-determined κs a z z' e e' p q = p ∙ sym q
+pub has_determined : Answered 0 has-kinds.ps has-kinds.r has-reads.Post
+has_determined κs a z z' e e' p q = p ∙ sym q
 
-pub forward-determined : Determined 2 forward-kinds.ps forward-kinds.r forward-reads.Post (List ℕ) (λ κs e. e.1.1.1.0.now)
-forward-determined κs a z z' e e' p q = (p.0 ∙ sym q.0, p.1 ∙ sym q.1)
+pub forward_determined : Determined 2 forward-kinds.ps forward-kinds.r forward-reads.Post (List ℕ) (λ κs e. e.1.1.1.0.now)
+forward_determined κs a z z' e e' p q = (p.0 ∙ sym q.0, p.1 ∙ sym q.1)
 
-pub to-house-determined : Answered 0 to-house-kinds.ps to-house-kinds.r to-house-reads.Post
-to-house-determined κs a z z' e e' p q = p ∙ sym q
+pub to_house_determined : Answered 0 to-house-kinds.ps to-house-kinds.r to-house-reads.Post
+to_house_determined κs a z z' e e' p q = p ∙ sym q
 
-pub to-code-determined : Answered 0 to-code-kinds.ps to-code-kinds.r to-code-reads.Post
-to-code-determined κs a z z' e e' p q = p ∙ sym q
+pub to_code_determined : Answered 0 to-code-kinds.ps to-code-kinds.r to-code-reads.Post
+to_code_determined κs a z z' e e' p q = p ∙ sym q
 
-pub sensor-height-determined : Answered 1 sensor-height-kinds.ps sensor-height-kinds.r sensor-height-reads.Post
-sensor-height-determined κs a z z' e e' p q = p ∙ sym q
+pub sensor_height_determined : Answered 1 sensor-height-kinds.ps sensor-height-kinds.r sensor-height-reads.Post
+sensor_height_determined κs a z z' e e' p q = p ∙ sym q
 
-pub frame-centre-height-determined : Answered 1 frame-centre-height-kinds.ps frame-centre-height-kinds.r frame-centre-height-reads.Post
-frame-centre-height-determined κs a z z' e e' p q = p ∙ sym q
+pub frame_centre_height_determined : Answered 1 frame-centre-height-kinds.ps frame-centre-height-kinds.r frame-centre-height-reads.Post
+frame_centre_height_determined κs a z z' e e' p q = p ∙ sym q
 
-pub corner-determined : Answered 1 corner-kinds.ps corner-kinds.r corner-reads.Post
-corner-determined κs a z z' e e' p q = p ∙ sym q
+pub corner_determined : Answered 1 corner-kinds.ps corner-kinds.r corner-reads.Post
+corner_determined κs a z z' e e' p q = p ∙ sym q
 
-pub version-determined : Answered 0 version-kinds.ps version-kinds.r version-reads.Post
-version-determined κs a z z' e e' p q = p ∙ sym q
+pub version_determined : Answered 0 version-kinds.ps version-kinds.r version-reads.Post
+version_determined κs a z z' e e' p q = p ∙ sym q
 
-pub start-determined : Answered 1 start-kinds.ps start-kinds.r start-reads.Post
-start-determined κs a z z' e e' p q = p ∙ sym q
+pub start_determined : Answered 1 start-kinds.ps start-kinds.r start-reads.Post
+start_determined κs a z z' e e' p q = p ∙ sym q
 
-pub next-determined : Answered 1 next-kinds.ps next-kinds.r next-reads.Post
-next-determined κs a z z' e e' p q = p ∙ sym q
+pub next_determined : Answered 1 next-kinds.ps next-kinds.r next-reads.Post
+next_determined κs a z z' e e' p q = p ∙ sym q
 
-pub item-determined : Answered 0 item-kinds.ps item-kinds.r item-reads.Post
-item-determined κs a z z' e e' p q = p ∙ sym q
+pub item_determined : Answered 0 item-kinds.ps item-kinds.r item-reads.Post
+item_determined κs a z z' e e' p q = p ∙ sym q
 
-pub list-determined : Determined 2 list-kinds.ps list-kinds.r list-reads.Post (List ℕ) (λ κs e. e.1.0.now)
-list-determined κs a z z' e e' p q = (p.0 ∙ sym q.0, p.1 ∙ sym q.1)
+pub list_determined : Determined 2 list-kinds.ps list-kinds.r list-reads.Post (List ℕ) (λ κs e. e.1.0.now)
+list_determined κs a z z' e e' p q = (p.0 ∙ sym q.0, p.1 ∙ sym q.1)

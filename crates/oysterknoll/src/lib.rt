@@ -1,24 +1,24 @@
 // The library that C and Rust link: document 01's functions under C names, each with a struct as its answer.
 // An answer says all there is to say; no lent memory carries any part of a refusal, and a refusal leaves all of it.
 ghost use Rattle.std.specs.Prelude.{◌≡◌, length};
-ghost use Rattle.scale.specs.Conversions.{toHouse, toCode};
+ghost use Rattle.scale.specs.Conversions.{to_house, to_code};
 ghost use Rattle.refusal.specs.Answer.{map};
-ghost use Rattle.rows.specs.Taken.{row_at, rowTakenAt, partPlace, partLength};
+ghost use Rattle.rows.specs.Taken.{row_at, row_taken_at, part_place, part_length};
 ghost use Rattle.packet.specs.Verdict.{checked};
-ghost use Rattle.packet.specs.Rows.{readAnswer, readTable};
+ghost use Rattle.packet.specs.Rows.{read_answer, read_table};
 ghost use Rattle.outgoing.specs.declared.Handed.TheVariants.{Words};
-ghost use Rattle.writer.specs.Writes.{writeAnswer, writeOutput, writeAnswerWith, writeOutputWith};
-ghost use Rattle.relay.specs.Forwards.{forwardAnswer, forwardOutput};
-ghost use Rattle.ground.specs.Said.{heightSaid};
-ghost use Rattle.ground.specs.Ground.{sensorHeight, frameCentreHeight, cornerOf};
-ghost use Rattle.listing.specs.Accepted.{listAnswer, listOutput};
+ghost use Rattle.writer.specs.Writes.{write_answer, write_output, write_answer_with, write_output_with};
+ghost use Rattle.relay.specs.Forwards.{forward_answer, forward_output};
+ghost use Rattle.ground.specs.Said.{height_said};
+ghost use Rattle.ground.specs.Ground.{sensor_height, frame_centre_height, corner_of};
+ghost use Rattle.listing.specs.Accepted.{list_answer, list_output};
 ghost use Rattle.refusal.specs.Numbers.{number};
 ghost use Rattle.tagset.specs.Sets.{knowing};
-ghost use Rattle.catalogue.specs.Items.{itemOf, unit_of};
+ghost use Rattle.catalogue.specs.Items.{item_of, unit_of};
 ghost use Rattle.walker.specs.Steps.{seen_at};
-ghost use Rattle.oysterknoll.specs.Answers.{version, refusing, presenting, rowing, unfixedAs, storedAs, markedAs, listing, itemsAnswer, rowsAnswer};
-ghost use Rattle.oysterknoll.specs.Answers.{bytesAnswer, linesAnswer, rowAnswer, startAnswer, nextAnswer, valueAnswer, codeAnswer, heightAnswer};
-ghost use Rattle.oysterknoll.specs.Answers.{cornerAnswer, itemAnswer, hasAnswer};
+ghost use Rattle.oysterknoll.specs.Answers.{version, refusing, presenting, rowing, unfixed_as, stored_as, marked_as, listing, items_answer, rows_answer};
+ghost use Rattle.oysterknoll.specs.Answers.{bytes_answer, lines_answer, row_answer, start_answer, next_answer, value_answer, code_answer, height_answer};
+ghost use Rattle.oysterknoll.specs.Answers.{corner_answer, item_answer, has_answer};
 
 use catalogue::{Found, Item, Sign};
 use ground::{Corner, Height};
@@ -218,7 +218,7 @@ fn words_of(set: TagSet) -> Present
 // Whether a packet is accepted, how many items it has, which known ones are there, and which of them are withdrawn.
 #[unsafe(no_mangle)]
 pub extern "C" fn oyk_check(packet: &[u8], low: u64, high: u64) -> CountAnswer
-    ensures { result ≡ itemsAnswer (checked (knowing low high) packet.now) }
+    ensures { result ≡ items_answer (checked (knowing low high) packet.now) }
 {
     match packet::check(packet, TagSet { low, high }) {
         Checked::Refused(cause) => CountAnswer {
@@ -239,8 +239,8 @@ pub extern "C" fn oyk_check(packet: &[u8], low: u64, high: u64) -> CountAnswer
 // Reads a packet into a table: how many rows there are, which known items, and which of them are withdrawn.
 #[unsafe(no_mangle)]
 pub extern "C" fn oyk_read(packet: &[u8], low: u64, high: u64, table: &mut [u64]) -> CountAnswer
-    ensures value { result ≡ rowsAnswer (readAnswer (knowing low high) packet.now table.old) }
-    ensures table_after { table.new ≡ readTable (knowing low high) packet.now table.old }
+    ensures value { result ≡ rows_answer (read_answer (knowing low high) packet.now table.old) }
+    ensures table_after { table.new ≡ read_table (knowing low high) packet.now table.old }
 {
     match reader::read(packet, TagSet { low, high }, table) {
         Reading::Refused(cause) => CountAnswer {
@@ -261,7 +261,7 @@ pub extern "C" fn oyk_read(packet: &[u8], low: u64, high: u64, table: &mut [u64]
 // Whether an item is there, by the words of an answer alone: 1, or 0.
 #[unsafe(no_mangle)]
 pub extern "C" fn oyk_has(present_low: u64, present_high: u64, tag: u64) -> u64
-    ensures { result ≡ hasAnswer (knowing present_low present_high) tag }
+    ensures { result ≡ has_answer (knowing present_low present_high) tag }
 {
     let present = TagSet {
         low: present_low,
@@ -274,7 +274,7 @@ pub extern "C" fn oyk_has(present_low: u64, present_high: u64, tag: u64) -> u64
 }
 
 fn row_told(row: RowWords) -> Row
-    ensures { result ≡ rowing row.tag row.kind row.code (partPlace row.part) (partLength row.part) }
+    ensures { result ≡ rowing row.tag row.kind row.code (part_place row.part) (part_length row.part) }
 {
     Row {
         tag: row.tag,
@@ -295,8 +295,8 @@ pub extern "C" fn oyk_take_row(
     low: u64,
     high: u64,
 ) -> RowAnswer
-    ensures { result ≡ rowAnswer (map (λ _. row_at words.now n)
-        (rowTakenAt (knowing low high) (length buffer.now) count n words.now)) }
+    ensures { result ≡ row_answer (map (λ _. row_at words.now n)
+        (row_taken_at (knowing low high) (length buffer.now) count n words.now)) }
 {
     match rows::take_row(words, count, n, TagSet { low, high }, buffer) {
         Taken::Refused(cause) => RowAnswer {
@@ -313,7 +313,7 @@ pub extern "C" fn oyk_take_row(
 // Starts a walk: where the items of an accepted packet begin.
 #[unsafe(no_mangle)]
 pub extern "C" fn oyk_start(packet: &[u8], low: u64, high: u64) -> StartAnswer
-    ensures { result ≡ startAnswer (checked (knowing low high) packet.now) }
+    ensures { result ≡ start_answer (checked (knowing low high) packet.now) }
 {
     let begun = walker::opened(packet, low, high);
     let answer = begun.answer;
@@ -332,7 +332,7 @@ pub extern "C" fn oyk_start(packet: &[u8], low: u64, high: u64) -> StartAnswer
 // A step of a walk: the item at a place, and the place after it.
 #[unsafe(no_mangle)]
 pub extern "C" fn oyk_next(packet: &[u8], low: u64, high: u64, place: usize) -> NextAnswer
-    ensures { result ≡ nextAnswer place (seen_at (knowing low high) packet.now place) }
+    ensures { result ≡ next_answer place (seen_at (knowing low high) packet.now place) }
 {
     match walker::seen_at(packet, place, low, high) {
         Seen::Item(item) => {
@@ -365,8 +365,8 @@ pub extern "C" fn oyk_write(
     high: u64,
     out: &mut [u8],
 ) -> SizeAnswer
-    ensures value { result ≡ bytesAnswer (writeAnswer (knowing low high) count words.now buffer.now out.old) }
-    ensures out_after { out.new ≡ writeOutput (knowing low high) count words.now buffer.now out.old }
+    ensures value { result ≡ bytes_answer (write_answer (knowing low high) count words.now buffer.now out.old) }
+    ensures out_after { out.new ≡ write_output (knowing low high) count words.now buffer.now out.old }
 {
     match writer::write(TagSet { low, high }, count, words, buffer, out) {
         Writing::Refused(cause) => SizeAnswer {
@@ -392,9 +392,9 @@ pub extern "C" fn oyk_write_with(
     present_high: u64,
     out: &mut [u8],
 ) -> SizeAnswer
-    ensures value { result ≡ bytesAnswer (writeAnswerWith (knowing low high) (Words (knowing present_low present_high)) count words.now
+    ensures value { result ≡ bytes_answer (write_answer_with (knowing low high) (Words (knowing present_low present_high)) count words.now
         buffer.now out.old) }
-    ensures out_after { out.new ≡ writeOutputWith (knowing low high) (Words (knowing present_low present_high)) count words.now
+    ensures out_after { out.new ≡ write_output_with (knowing low high) (Words (knowing present_low present_high)) count words.now
         buffer.now out.old }
 {
     let present = TagSet {
@@ -416,8 +416,8 @@ pub extern "C" fn oyk_write_with(
 // Sends a packet on: how many bytes it takes.
 #[unsafe(no_mangle)]
 pub extern "C" fn oyk_forward(packet: &[u8], low: u64, high: u64, out: &mut [u8]) -> SizeAnswer
-    ensures value { result ≡ bytesAnswer (forwardAnswer (knowing low high) packet.now out.old) }
-    ensures out_after { out.new ≡ forwardOutput (knowing low high) packet.now out.old }
+    ensures value { result ≡ bytes_answer (forward_answer (knowing low high) packet.now out.old) }
+    ensures out_after { out.new ≡ forward_output (knowing low high) packet.now out.old }
 {
     match relay::forward(TagSet { low, high }, packet, out) {
         Forwarding::Refused(cause) => SizeAnswer {
@@ -434,7 +434,7 @@ pub extern "C" fn oyk_forward(packet: &[u8], low: u64, high: u64, out: &mut [u8]
 // What a code of so many bytes stands for, in house units; only at an extended height does the length matter.
 #[unsafe(no_mangle)]
 pub extern "C" fn oyk_to_house(tag: u64, length: usize, code: u64) -> ValueAnswer
-    ensures { result ≡ valueAnswer (toHouse tag length code) }
+    ensures { result ≡ value_answer (to_house tag length code) }
 {
     match scale::to_house(tag, length, code) {
         ToHouse::Refused(cause) => ValueAnswer {
@@ -451,7 +451,7 @@ pub extern "C" fn oyk_to_house(tag: u64, length: usize, code: u64) -> ValueAnswe
 // The code of so many bytes that is nearest to a value in house units, at an extended height the one at or below it.
 #[unsafe(no_mangle)]
 pub extern "C" fn oyk_to_code(tag: u64, length: usize, value: i64) -> CodeAnswer
-    ensures { result ≡ codeAnswer (toCode tag length value) }
+    ensures { result ≡ code_answer (to_code tag length value) }
 {
     match scale::to_code(tag, length, value) {
         ToCode::Refused(cause) => CodeAnswer {
@@ -466,7 +466,7 @@ pub extern "C" fn oyk_to_code(tag: u64, length: usize, value: i64) -> CodeAnswer
 }
 
 fn height_found(height: Height) -> HeightAnswer
-    ensures { result ≡ heightAnswer (heightSaid height) }
+    ensures { result ≡ height_answer (height_said height) }
 {
     match height {
         Height::Refused(cause) => HeightAnswer {
@@ -495,7 +495,7 @@ fn height_found(height: Height) -> HeightAnswer
 // The sensor's height, with its kind.
 #[unsafe(no_mangle)]
 pub extern "C" fn oyk_sensor_height(packet: &[u8], low: u64, high: u64) -> HeightAnswer
-    ensures { result ≡ heightAnswer (sensorHeight (knowing low high) packet.now) }
+    ensures { result ≡ height_answer (sensor_height (knowing low high) packet.now) }
 {
     height_found(ground::sensor_height(packet, TagSet { low, high }))
 }
@@ -503,7 +503,7 @@ pub extern "C" fn oyk_sensor_height(packet: &[u8], low: u64, high: u64) -> Heigh
 // The frame centre's height, with its kind.
 #[unsafe(no_mangle)]
 pub extern "C" fn oyk_frame_centre_height(packet: &[u8], low: u64, high: u64) -> HeightAnswer
-    ensures { result ≡ heightAnswer (frameCentreHeight (knowing low high) packet.now) }
+    ensures { result ≡ height_answer (frame_centre_height (knowing low high) packet.now) }
 {
     height_found(ground::frame_centre_height(packet, TagSet { low, high }))
 }
@@ -511,7 +511,7 @@ pub extern "C" fn oyk_frame_centre_height(packet: &[u8], low: u64, high: u64) ->
 // Corner k of the picture on the ground: latitude and longitude.
 #[unsafe(no_mangle)]
 pub extern "C" fn oyk_corner(packet: &[u8], low: u64, high: u64, k: u64) -> CornerAnswer
-    ensures { result ≡ cornerAnswer (cornerOf k (knowing low high) packet.now) }
+    ensures { result ≡ corner_answer (corner_of k (knowing low high) packet.now) }
 {
     match ground::corner_at(packet, TagSet { low, high }, k) {
         Corner::Refused(cause) => CornerAnswer {
@@ -543,7 +543,7 @@ pub extern "C" fn oyk_corner(packet: &[u8], low: u64, high: u64, k: u64) -> Corn
 
 // What has no width of its own: with a scale it is an extended height.
 fn unfixed_as(item: Item) -> u64
-    ensures { result ≡ unfixedAs item }
+    ensures { result ≡ unfixed_as item }
 {
     if item.low < item.high {
         return STORED_EXTENDED;
@@ -552,7 +552,7 @@ fn unfixed_as(item: Item) -> u64
 }
 
 fn stored_as(item: Item) -> u64
-    ensures { result ≡ storedAs item }
+    ensures { result ≡ stored_as item }
 {
     if item.width == 0 {
         return unfixed_as(item);
@@ -566,7 +566,7 @@ fn stored_as(item: Item) -> u64
 }
 
 fn marked_as(sign: Sign) -> u64
-    ensures { result ≡ markedAs sign }
+    ensures { result ≡ marked_as sign }
 {
     match sign {
         Sign::Unsigned => 0,
@@ -592,7 +592,7 @@ fn listed(item: Item, unit: u64) -> ItemAnswer
 // What the catalogue has for a tag.
 #[unsafe(no_mangle)]
 pub extern "C" fn oyk_item(tag: u64) -> ItemAnswer
-    ensures { result ≡ itemAnswer (itemOf tag) (unit_of tag) }
+    ensures { result ≡ item_answer (item_of tag) (unit_of tag) }
 {
     match items::item_of(tag) {
         Found::Known(item) => listed(item, units::number_of(units::unit_of(tag))),
@@ -610,8 +610,8 @@ pub extern "C" fn oyk_item(tag: u64) -> ItemAnswer
 // Lists an accepted packet for a reader of the whole catalogue: how many bytes the listing takes.
 #[unsafe(no_mangle)]
 pub extern "C" fn oyk_list(packet: &[u8], out: &mut [u8]) -> SizeAnswer
-    ensures value { result ≡ linesAnswer (listAnswer packet.now out.old) }
-    ensures out_after { out.new ≡ listOutput packet.now out.old }
+    ensures value { result ≡ lines_answer (list_answer packet.now out.old) }
+    ensures out_after { out.new ≡ list_output packet.now out.old }
 {
     match listing::list_accepted(packet, out) {
         Listing::Refused(cause) => SizeAnswer {

@@ -9,28 +9,28 @@ use lib.Dec.{eqb}
 use lib.ListN.{length, take, drop, length-take, length-drop}
 use lib.Seq.{take-take, take-add, drop_at}
 use borrow.Author.Tests.{eq-eqb, eqb-true}
-use Rattle.base.proofs.Cases.{byBool, same_test, clash}
+use Rattle.base.proofs.Cases.{by_bool, same_test, clash}
 use Rattle.base.proofs.Every.{both_left, both_right, both_true}
-use Rattle.number.specs.Stored.{Bytes, valueFrom, value_of, bytes_of}
-use Rattle.number.proofs.Laws.{bytes_take, bytes_drop, bytes-value, value-small}
+use Rattle.number.specs.Stored.{Bytes, value_from, value_of, bytes_of}
+use Rattle.number.proofs.Laws.{bytes_take, bytes_drop, bytes_value, value_small}
 use Rattle.packet.specs.Structure.{key, same}
 
-pub same-eq : (l m : List ℕ) → same l m ≡ true → l ≡ m
-same-eq [] [] e = refl
-same-eq [] (b ∷ m) e = clash (sym e)
-same-eq (a ∷ l) [] e = clash (sym e)
-same-eq (a ∷ l) (b ∷ m) e =
+pub same_eq : (l m : List ℕ) → same l m ≡ true → l ≡ m
+same_eq [] [] e = refl
+same_eq [] (b ∷ m) e = clash (sym e)
+same_eq (a ∷ l) [] e = clash (sym e)
+same_eq (a ∷ l) (b ∷ m) e =
     let x : a ≡ b = eqb-true a b (both_left (eqb a b) (same l m) e) in
-    let y : l ≡ m = same-eq l m (both_right (eqb a b) (same l m) e) in
+    let y : l ≡ m = same_eq l m (both_right (eqb a b) (same l m) e) in
     cc
 
 pub same_refl : (l : List ℕ) → same l l ≡ true
 same_refl [] = refl
 same_refl (a ∷ l) = both_true (eqb a a) (same l l) (eq-eqb a a refl) (same_refl l)
 
-key-length : length key ≡ 16
+key_length : length key ≡ 16
 unfolding key
-key-length = refl
+key_length = refl
 
 abbrev front : ℕ
 front = 0x060E_2B34_020B_0101
@@ -38,27 +38,27 @@ front = 0x060E_2B34_020B_0101
 abbrev back : ℕ
 back = 0x0E01_0301_0100_0000
 
-key-halves : key ≡ bytes_of 8 front ++ bytes_of 8 back
+key_halves : key ≡ bytes_of 8 front ++ bytes_of 8 back
 unfolding key bytes_of
-key-halves = refl
+key_halves = refl
 
-key-front : value_of (take 8 key) ≡ front
-unfolding key valueFrom
-key-front = refl
+key_front : value_of (take 8 key) ≡ front
+unfolding key value_from
+key_front = refl
 
 key_back : value_of (take 8 (drop 8 key)) ≡ back
-unfolding key valueFrom
+unfolding key value_from
 key_back = refl
 
-key-rest : drop 8 key ≡ take 8 (drop 8 key)
+key_rest : drop 8 key ≡ take 8 (drop 8 key)
 unfolding key
-key-rest = refl
+key_rest = refl
 
 module _ (p : List ℕ) where
   pub no_key : length p < 16 → false ≡ same (take 16 p) key
   no_key short =
-      byBool (same (take 16 p) key)
-      (λ e. absurd (omega (arith, ap length (same-eq (take 16 p) key e), length-take 16 p, key-length)))
+      by_bool (same (take 16 p) key)
+      (λ e. absurd (omega (arith, ap length (same_eq (take 16 p) key e), length-take 16 p, key_length)))
       (λ e. sym e)
 
   module _ (by : Bytes p) (long : 16 ≤ length p) where
@@ -68,30 +68,30 @@ module _ (p : List ℕ) where
         let l : List ℕ = take 8 (drop at p) in
         let b : Bytes l = bytes_take 8 (drop at p) (bytes_drop at by) in
         let n : length l ≡ 8 = rw (length-take, length-drop) (omega arith) in
-        let small : value_of l < 256 ^ 8 = rw n at (value-small l b) in
+        let small : value_of l < 256 ^ 8 = rw n at (value_small l b) in
         let same : v ≡ value_of l = omega arith in
-        (same, sym (rw (n, ← same) at (bytes-value 0 l b)))
+        (same, sym (rw (n, ← same) at (bytes_value 0 l b)))
 
     halves : take 16 p ≡ take 8 p ++ take 8 (drop 8 p)
     halves = take-add 8 8 p
 
     keyed : same (take 16 p) key ≡ true → (take 8 p ≡ take 8 key) × (take 8 (drop 8 p) ≡ take 8 (drop 8 key))
     keyed e =
-        let q : take 16 p ≡ key = same-eq (take 16 p) key e in
+        let q : take 16 p ≡ key = same_eq (take 16 p) key e in
         let n : length (take 8 p) ≡ 8 = rw length-take (omega arith) in
         let r : drop 8 (take 16 p) ≡ take 8 (drop 8 p) = ap (drop 8) halves ∙ drop_at (take 8 p) (take 8 (drop 8 p)) 8 n in
-        (sym (take-take 8 16 p (omega arith)) ∙ ap (take 8) q, sym r ∙ (ap (drop 8) q ∙ key-rest))
+        (sym (take-take 8 16 p (omega arith)) ∙ ap (take 8) q, sym r ∙ (ap (drop 8) q ∙ key_rest))
 
-    pub by-halves : (v w : ℕ) → v ≡ value_of (take 8 p) % 2 ^ 64 → w ≡ value_of (take 8 (drop 8 p)) % 2 ^ 64 → v ≡ front → eqb w back ≡ same (take 16 p) key
-    by-halves v w ev ew e =
+    pub by_halves : (v w : ℕ) → v ≡ value_of (take 8 p) % 2 ^ 64 → w ≡ value_of (take 8 (drop 8 p)) % 2 ^ 64 → v ≡ front → eqb w back ≡ same (take 16 p) key
+    by_halves v w ev ew e =
         same_test (eqb w back) (same (take 16 p) key)
         (λ f. let fst = (eight 0 v (omega arith) ev).1 in
         let snd = (eight 8 w (omega arith) ew).1 in
-        rw (halves, fst, snd, e, eqb-true w back f, ← key-halves) (same_refl key))
+        rw (halves, fst, snd, e, eqb-true w back f, ← key_halves) (same_refl key))
         (λ f. eq-eqb w back ((eight 8 w (omega arith) ew).0 ∙ (ap value_of (keyed f).1 ∙ key_back)))
 
-    pub other-front : (v : ℕ) → v ≡ value_of (take 8 p) % 2 ^ 64 → (v ≡ front → ⊥) → false ≡ same (take 16 p) key
-    other-front v ev other =
-        byBool (same (take 16 p) key)
-        (λ e. absurd (other ((eight 0 v (omega arith) ev).0 ∙ (ap value_of (keyed e).0 ∙ key-front))))
+    pub other_front : (v : ℕ) → v ≡ value_of (take 8 p) % 2 ^ 64 → (v ≡ front → ⊥) → false ≡ same (take 16 p) key
+    other_front v ev other =
+        by_bool (same (take 16 p) key)
+        (λ e. absurd (other ((eight 0 v (omega arith) ev).0 ∙ (ap value_of (keyed e).0 ∙ key_front))))
         (λ e. sym e)

@@ -8,20 +8,20 @@ use Rattle.number.specs.Stored.{value_of}
 use Rattle.tagset.specs.Sets.{holds}
 use Rattle.tagset.specs.declared.TagSet.{TagSet}
 use Rattle.knowing.proofs.Laws.{Good}
-use Rattle.rows.specs.Meaning.{shapeFor}
-use Rattle.rows.specs.Present.{isPresent, isWithdrawn}
-use Rattle.rows.proofs.Present.{kind-listed, kind-withdrawn, known-listed}
+use Rattle.rows.specs.Meaning.{shape_for}
+use Rattle.rows.specs.Present.{is_present, is_withdrawn}
+use Rattle.rows.proofs.Present.{kind_listed, kind_withdrawn, known_listed}
 use Rattle.packet.specs.Pieces.{Item}
 use Rattle.packet.specs.Seen.{row_of}
 
-pub row-present : (K : TagSet) → Good K → (i : Item) → isPresent (row_of (holds K) i) ≡ holds K i.piece.tag
+pub row_present : (K : TagSet) → Good K → (i : Item) → is_present (row_of (holds K) i) ≡ holds K i.piece.tag
 unfolding row_of
-row-present K good i =
+row_present K good i =
     let v = i.piece.value in
-    kind-listed (shapeFor (holds K) i.piece.tag) (value_of v) (length v) v ∙ known-listed K good i.piece.tag
+    kind_listed (shape_for (holds K) i.piece.tag) (value_of v) (length v) v ∙ known_listed K good i.piece.tag
 
-pub row-withdrawn : (K : TagSet) → Good K → (i : Item) → isWithdrawn (row_of (holds K) i) ≡ (holds K i.piece.tag && eqb (length i.piece.value) 0)
+pub row_withdrawn : (K : TagSet) → Good K → (i : Item) → is_withdrawn (row_of (holds K) i) ≡ (holds K i.piece.tag && eqb (length i.piece.value) 0)
 unfolding row_of
-row-withdrawn K good i =
+row_withdrawn K good i =
     let v = i.piece.value in
-    kind-withdrawn (shapeFor (holds K) i.piece.tag) (value_of v) (length v) v ∙ ap (λ b. b && eqb (length v) 0) (known-listed K good i.piece.tag)
+    kind_withdrawn (shape_for (holds K) i.piece.tag) (value_of v) (length v) v ∙ ap (λ b. b && eqb (length v) 0) (known_listed K good i.piece.tag)

@@ -5,8 +5,8 @@ use Rattle.refusal.specs.Answer.{Answer, given, refused}
 use Rattle.packet.specs.declared.Ends.{Ends}
 
 -- by the tags of the first and the last, and the last one's length; where there is none the first one's tag is 0
-unfoldable pub rightEnds : Ends → Answer (Unit {0})
-rightEnds e =
+unfoldable pub right_ends : Ends → Answer (Unit {0})
+right_ends e =
     cond (eqb e.first 2)
     (cond (eqb e.last 1 && eqb e.size 2) (given tt) (refused 10 e.end e.last))
     (refused 9 e.start e.first)

@@ -1,7 +1,7 @@
 -- Document 01, Packet: "Items fill the rest without gap: tag, length, value."
 use Rattle.std.specs.Prelude.{ℕ, zero, suc, ◌+◌, cond, List, [], ◌∷◌, length, take, drop, ltb, leb}
 use Rattle.refusal.specs.Answer.{Answer, given, refused, map}
-use Rattle.ber.specs.Read.{Read, got, broken, readTag, readLength}
+use Rattle.ber.specs.Read.{Read, got, broken, read_tag, read_length}
 
 -- what an item means, whoever reads it and wherever it stands
 pub record Piece : Type 0 where
@@ -20,21 +20,21 @@ pieces (i ∷ is) = i.piece ∷ pieces is
 
 -- the item that begins a list: its tag, how many bytes stand before its value, and how many its value has
 pub data Step : Type 0 where
-  noTag : Step
-  noLength : (tag : ℕ) → Step
+  no_tag : Step
+  no_length : (tag : ℕ) → Step
   one : (tag head size : ℕ) → Step
 
 -- the tag took s bytes of m, the length k
-abbrev pub afterLength : ℕ → ℕ → ℕ → Read → Step
-afterLength m t s broken = noLength t
-afterLength m t s (got n k) = cond (leb (s + k + n) m) (one t (s + k) n) (noLength t)
+abbrev pub after_length : ℕ → ℕ → ℕ → Read → Step
+after_length m t s broken = no_length t
+after_length m t s (got n k) = cond (leb (s + k + n) m) (one t (s + k) n) (no_length t)
 
-abbrev pub afterTag : List ℕ → Read → Step
-afterTag l broken = noTag
-afterTag l (got t s) = afterLength (length l) t s (readLength (drop s l))
+abbrev pub after_tag : List ℕ → Read → Step
+after_tag l broken = no_tag
+after_tag l (got t s) = after_length (length l) t s (read_length (drop s l))
 
-unfoldable pub readItem : List ℕ → Step
-readItem l = afterTag l (readTag l)
+unfoldable pub read_item : List ℕ → Step
+read_item l = after_tag l (read_tag l)
 
 -- an item before the items that follow
 abbrev pub before : Item → Answer (List Item) → Answer (List Item)
@@ -44,11 +44,11 @@ abbrev pub item_at : ℕ → List ℕ → ℕ → ℕ → ℕ → Item
 item_at at l t h n = record { start = at; place = at + h; piece = record { tag = t; value = take n (drop h l) } }
 
 abbrev pub onward : (ℕ → List ℕ → Answer (List Item)) → ℕ → List ℕ → Step → Answer (List Item)
-onward rest at l noTag = refused 7 at 0
-onward rest at l (noLength t) = refused 8 at t
+onward rest at l no_tag = refused 7 at 0
+onward rest at l (no_length t) = refused 8 at t
 onward rest at l (one t h n) = before (item_at at l t h n) (rest (at + (h + n)) (drop (h + n) l))
 
 -- the items that fill the list l, which begins at a place; at most n of them
 unfoldable pub walk : ℕ → ℕ → List ℕ → Answer (List Item)
 walk zero at l = cond (ltb 0 (length l)) (refused 6 at 0) (given [])
-walk (suc n) at l = cond (ltb 0 (length l)) (onward (λ a r. walk n a r) at l (readItem l)) (given [])
+walk (suc n) at l = cond (ltb 0 (length l)) (onward (λ a r. walk n a r) at l (read_item l)) (given [])

@@ -4,16 +4,16 @@ use Rattle.refusal.specs.Answer.{Answer, given, refused, map, then, or_else}
 use Rattle.tagset.specs.Sets.{holds}
 use Rattle.tagset.specs.declared.TagSet.{TagSet}
 use Rattle.knowing.specs.Good.{good}
-use Rattle.catalogue.specs.Extended.{isExtended}
-use Rattle.rows.specs.Present.{presentIn, withdrawnIn}
+use Rattle.catalogue.specs.Extended.{is_extended}
+use Rattle.rows.specs.Present.{present_in, withdrawn_in}
 use Rattle.packet.specs.declared.Accepted.{Accepted}
 use Rattle.packet.specs.declared.Located.{Located}
-use Rattle.packet.specs.Said.{checkSaid}
+use Rattle.packet.specs.Said.{check_said}
 use Rattle.packet.specs.Pieces.{Item, pieces}
 use Rattle.packet.specs.Structure.{structure}
-use Rattle.packet.specs.Encode.{longerOf}
+use Rattle.packet.specs.Encode.{longer_of}
 use Rattle.packet.specs.Seen.{rows_of}
-use Rattle.packet.specs.Judge.{Knowing, Judged, fine, faulty, noVersion, judge}
+use Rattle.packet.specs.Judge.{Knowing, Judged, fine, faulty, no_version, judge}
 
 -- where the item at an index starts
 abbrev pub start_of : ℕ → List Item → ℕ
@@ -24,7 +24,7 @@ start_of (suc k) (i ∷ is) = start_of k is
 abbrev pub placed : List Item → Judged → Answer (List Item)
 placed is fine = given is
 placed is (faulty k n t) = refused n (start_of k is) t
-placed is noVersion = refused 15 0 0
+placed is no_version = refused 15 0 0
 
 abbrev pub judged : Knowing → List Item → Answer (List Item)
 judged K is = placed is (judge K (pieces is))
@@ -41,28 +41,28 @@ received K p = cond (good K) (verdict (holds K) p) (refused 1 0 0)
 abbrev pub body_of : Knowing → List Item → Accepted
 body_of K is =
     let rs = rows_of K is in
-    record { from = start_of 0 is; count = length is; longer = longerOf is; present = presentIn rs; withdrawn = withdrawnIn rs }
+    record { from = start_of 0 is; count = length is; longer = longer_of is; present = present_in rs; withdrawn = withdrawn_in rs }
 
 unfoldable pub checked : TagSet → List ℕ → Answer Accepted
 checked K p = map (body_of (holds K)) (received K p)
 
 -- where a value is found: by the place past it, since its tag tells its length; an extended height, whose tag does not (W-202), by its own place,
 -- before which its length stands; an item of no bytes (W-204) has none to be found
-abbrev pub foundAt : ℕ → ℕ → ℕ → ℕ
-foundAt t place size = cond (eqb size 0) 0 (cond (isExtended t) place (place + size))
+abbrev pub found_at : ℕ → ℕ → ℕ → ℕ
+found_at t place size = cond (eqb size 0) 0 (cond (is_extended t) place (place + size))
 
 -- for each tag below 128 where its last item's value is found, 0 where there is none; and at 0 that of the tags from 128 on
-abbrev pub oneByte : ℕ → ℕ
-oneByte x = cond (ltb x 128) x 0
+abbrev pub one_byte : ℕ → ℕ
+one_byte x = cond (ltb x 128) x 0
 
-unfoldable pub placesFrom : List ℕ → List Item → List ℕ
-placesFrom l [] = l
-placesFrom l (i ∷ is) = placesFrom (set l (oneByte i.piece.tag) (foundAt i.piece.tag i.place (length i.piece.value))) is
+unfoldable pub places_from : List ℕ → List Item → List ℕ
+places_from l [] = l
+places_from l (i ∷ is) = places_from (set l (one_byte i.piece.tag) (found_at i.piece.tag i.place (length i.piece.value))) is
 
-abbrev pub noPlaces : List ℕ
-noPlaces = replicate 128 0
+abbrev pub no_places : List ℕ
+no_places = replicate 128 0
 
 -- after a refusal there are none
 pub record Locates (K : TagSet) (p : List ℕ) (r : Located) : Type 0 where
-  pub says : checkSaid r.answer ≡ checked K p
-  pub places : r.places ≡ or_else noPlaces (placesFrom noPlaces) (received K p)
+  pub says : check_said r.answer ≡ checked K p
+  pub places : r.places ≡ or_else no_places (places_from no_places) (received K p)

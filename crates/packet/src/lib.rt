@@ -5,19 +5,19 @@ ghost use Rattle.refusal.specs.Numbers.{number};
 ghost use Rattle.refusal.specs.Answer.{refused as refusedBy, refusal as refusalOf};
 ghost use Rattle.tagset.specs.Sets.{holds};
 ghost use Rattle.knowing.specs.Good.{good};
-ghost use Rattle.catalogue.specs.code.Column.{shapeColumn, maskColumn, within};
-ghost use Rattle.packet.specs.Judge.{faultBy, faultOf};
-ghost use Rattle.packet.specs.Said.{stepSaid, header_at, faultSaid, rightSaid, checkSaid};
+ghost use Rattle.catalogue.specs.code.Column.{shape_column, mask_column, within};
+ghost use Rattle.packet.specs.Judge.{fault_by, fault_of};
+ghost use Rattle.packet.specs.Said.{step_said, header_at, fault_said, right_said, check_said};
 ghost use Rattle.packet.specs.Pieces.{walk as walkItems};
-ghost use Rattle.packet.specs.Ends.{rightEnds};
+ghost use Rattle.packet.specs.Ends.{right_ends};
 ghost use Rattle.packet.specs.Structure.{key, same, frame};
-ghost use Rattle.packet.specs.Verdict.{oneByte, checked, Locates};
-ghost use Rattle.packet.specs.code.Headers.{itemBy, shortForms};
-ghost use Rattle.packet.specs.code.Passing.{longerIn, shortest, FitAs, foundBy, Glances, asksClose, maskAt, GlancesNoting, TwoWords, setOf, Notes};
-ghost use Rattle.packet.specs.code.Passing.{keptBy, Counted, Keeps, PassesPlain};
-ghost use Rattle.packet.specs.code.Passing.{freshAt, Passes, Stops};
-ghost use Rattle.packet.specs.code.Concluded.{frameSaid, WalksFrom, judgedFrom, headerIn, endsBy, summedAt, closedBy, codedIn, foundIn};
-ghost use Rattle.packet.specs.code.Concluded.{wholeIn, cleanIn, begunBy, PlacesIn, Whole, rightFrom, Begins, ChecksFrom};
+ghost use Rattle.packet.specs.Verdict.{one_byte, checked, Locates};
+ghost use Rattle.packet.specs.code.Headers.{item_by, short_forms};
+ghost use Rattle.packet.specs.code.Passing.{longer_in, shortest, FitAs, found_by, Glances, asks_close, mask_at, GlancesNoting, TwoWords, set_of, Notes};
+ghost use Rattle.packet.specs.code.Passing.{kept_by, Counted, Keeps, PassesPlain};
+ghost use Rattle.packet.specs.code.Passing.{fresh_at, Passes, Stops};
+ghost use Rattle.packet.specs.code.Concluded.{frame_said, WalksFrom, judged_from, header_in, ends_by, summed_at, closed_by, coded_in, found_in};
+ghost use Rattle.packet.specs.code.Concluded.{whole_in, clean_in, begun_by, PlacesIn, Whole, right_from, Begins, ChecksFrom};
 
 use catalogue::Shape;
 use refusal::{Reason, Refusal};
@@ -40,7 +40,7 @@ pub enum Step {
 
 // The item at a place of a packet, whatever its tag and its length are.
 fn any_item_at(packet: &[u8], at: usize) -> Step
-    ensures { stepSaid result ≡ header_at packet.now at }
+    ensures { step_said result ≡ header_at packet.now at }
 {
     let ber::Field::Is {
         value: tag,
@@ -81,7 +81,7 @@ fn any_item_at(packet: &[u8], at: usize) -> Step
 
 // Whether a tag and a length are these two bytes alone.
 fn is_short(tag: u64, length: u64) -> bool
-    ensures { result ≡ shortForms tag length }
+    ensures { result ≡ short_forms tag length }
 {
     if 0 < tag {
         if tag < 128 {
@@ -93,7 +93,7 @@ fn is_short(tag: u64, length: u64) -> bool
 
 // The item at a place of a packet: most have a tag and a length of one byte each.
 pub fn item_at(packet: &[u8], at: usize) -> Step
-    ensures { stepSaid result ≡ header_at packet.now at }
+    ensures { step_said result ≡ header_at packet.now at }
 {
     if packet.len() < 2 {
         return any_item_at(packet, at);
@@ -143,7 +143,7 @@ pub struct Looked {
 
 // The rule for a known item, for reader and writer alike: its length, that it stands once, its code.
 pub fn fault_of(item: Looked) -> Fault
-    ensures { faultSaid result ≡ faultBy item }
+    ensures { fault_said result ≡ fault_by item }
 {
     let shape = item.shape;
     if catalogue::allows_size(item.tag, shape, item.size) {
@@ -160,8 +160,8 @@ pub fn fault_of(item: Looked) -> Fault
 
 // What is wrong with an item for a receiver: nothing where it does not know the tag.
 fn fault_at(packet: &[u8], column: &[u8; 128], known: TagSet, seen: TagSet, item: Header) -> Fault
-    requires { (column.now ≡ shapeColumn) × (item.place + item.size ≤ length packet.now) }
-    ensures { faultSaid result ≡ faultOf (holds known) (holds seen) (itemBy packet.now item).piece }
+    requires { (column.now ≡ shape_column) × (item.place + item.size ≤ length packet.now) }
+    ensures { fault_said result ≡ fault_of (holds known) (holds seen) (item_by packet.now item).piece }
 {
     let tag = item.tag;
     let size = item.size;
@@ -202,7 +202,7 @@ pub enum Right {
 // Item by item the faults of known items, then item 65: the exact walk, of a packet whose structure is right.
 fn judged(packet: &[u8], from: usize, known: TagSet) -> Right
     requires { WalksFrom packet.now from }
-    ensures { rightSaid result ≡ judgedFrom known packet.now from }
+    ensures { right_said result ≡ judged_from known packet.now from }
 {
     let column = catalogue::shapes();
     let mut seen = TagSet { low: 0, high: 0 };
@@ -251,7 +251,7 @@ struct Glance {
 }
 
 fn one_byte(x: u64) -> usize
-    ensures { result ≡ oneByte x }
+    ensures { result ≡ one_byte x }
 {
     if x < 128 {
         return x as usize;
@@ -262,7 +262,7 @@ fn one_byte(x: u64) -> usize
 // How many bytes stand before a value beyond those that it needs.
 fn longer_by(item: Header) -> usize
     requires { item.start + shortest item ≤ item.place }
-    ensures { result ≡ longerIn item }
+    ensures { result ≡ longer_in item }
 {
     item.place - item.start - ber::tag_size(item.tag) - ber::length_size(item.size as u64)
 }
@@ -276,7 +276,7 @@ fn is_within(mask: u8, size: u8) -> bool
 
 // Whether an item is fit: it has no bytes, or its length is allowed, and of an extended height its code too.
 fn is_fit(packet: &[u8], column: &[u8; 128], item: Header) -> bool
-    requires { (column.now ≡ maskColumn) × (item.place + item.size ≤ length packet.now) }
+    requires { (column.now ≡ mask_column) × (item.place + item.size ≤ length packet.now) }
     ensures { FitAs packet.now item result }
 {
     let tag = one_byte(item.tag);
@@ -299,7 +299,7 @@ fn is_fit(packet: &[u8], column: &[u8; 128], item: Header) -> bool
 // own place, before which its length stands; where there are no bytes, nowhere.
 fn found_at(item: Header) -> usize
     requires { item.place + item.size < 2 ^ 64 }
-    ensures { result ≡ foundBy item }
+    ensures { result ≡ found_by item }
 {
     if item.size == 0 {
         return 0;
@@ -312,7 +312,7 @@ fn found_at(item: Header) -> usize
 
 // Any item at a glance.
 fn any_glance_at(packet: &[u8], column: &[u8; 128], at: usize) -> Glance
-    requires { column.now ≡ maskColumn }
+    requires { column.now ≡ mask_column }
     ensures { Glances packet.now at result }
 {
     match any_item_at(packet, at) {
@@ -343,7 +343,7 @@ fn close_glance_at(
     withdrawn: &mut [u64; 2],
     at: usize,
 ) -> Glance
-    requires { (column.now ≡ maskColumn) × TwoWords words.now × TwoWords withdrawn.old }
+    requires { (column.now ≡ mask_column) × TwoWords words.now × TwoWords withdrawn.old }
     ensures { GlancesNoting packet.now words.now withdrawn.old at result withdrawn.new }
 {
     let item = any_glance_at(packet, column, at);
@@ -355,7 +355,7 @@ fn close_glance_at(
 
 // Whether a tag and a length ask for a closer look: of more than one byte, or no bytes.
 fn is_close(tag: u8, size: u8) -> bool
-    ensures { result ≡ asksClose tag size }
+    ensures { result ≡ asks_close tag size }
 {
     if 128 <= (tag | size) {
         return true;
@@ -365,8 +365,8 @@ fn is_close(tag: u8, size: u8) -> bool
 
 // The mask of the lengths of the item at a place, 128 where it asks for a closer look; tag 0 does, for it is none.
 fn mask_at(packet: &[u8], column: &[u8; 128], at: usize) -> u8
-    requires { (column.now ≡ maskColumn) × (at + 2 ≤ length packet.now) }
-    ensures { result ≡ maskAt packet.now at }
+    requires { (column.now ≡ mask_column) × (at + 2 ≤ length packet.now) }
+    ensures { result ≡ mask_at packet.now at }
 {
     let tag = packet[at];
     if is_close(tag, packet[at + 1]) {
@@ -377,7 +377,7 @@ fn mask_at(packet: &[u8], column: &[u8; 128], at: usize) -> u8
 
 // Most items have a tag and a length of one byte each, and need no closer look.
 fn glance_at(packet: &[u8], mask: u8, at: usize) -> Glance
-    requires { (at + 2 ≤ length packet.now) × (mask ≡ maskAt packet.now at) × (mask < 128) }
+    requires { (at + 2 ≤ length packet.now) × (mask ≡ mask_at packet.now at) × (mask < 128) }
     ensures { Glances packet.now at result × (result.empty ≡ false) }
 {
     let after = at + 1;
@@ -450,9 +450,9 @@ fn pass_plain(
     present: &mut [u64; 2],
     from: Passed,
 ) -> Passed
-    requires { (column.now ≡ maskColumn) × TwoWords words.now × (good (setOf words.now) ≡ true) × TwoWords present.old
+    requires { (column.now ≡ mask_column) × TwoWords words.now × (good (set_of words.now) ≡ true) × TwoWords present.old
         × (2 ≤ length packet.now) × (length packet.now ≤ 8192) × Counted from }
-    ensures { PassesPlain (setOf words.now) packet.now places.old present.old from result
+    ensures { PassesPlain (set_of words.now) packet.now places.old present.old from result
         places.new present.new }
 {
     let last_byte = packet.len() - 1;
@@ -487,8 +487,8 @@ fn pass(
     requires { (good known ≡ true) × (2 ≤ length packet.now) × (length packet.now ≤ 8192) × (from ≤ length packet.now)
         × TwoWords present.old × TwoWords withdrawn.old }
     ensures { Passes known packet.now
-        (freshAt from places.old (setOf present.old) (setOf withdrawn.old))
-        (keptBy result places.new (setOf present.new) (setOf withdrawn.new)) }
+        (fresh_at from places.old (set_of present.old) (set_of withdrawn.old))
+        (kept_by result places.new (set_of present.new) (set_of withdrawn.new)) }
 {
     let column = catalogue::length_masks();
     let words = [known.low, known.high];
@@ -537,7 +537,7 @@ enum Frame {
 }
 
 fn unframed(reason: Reason, place: usize) -> Frame
-    ensures { frameSaid result ≡ refusedBy (number reason) place 0 }
+    ensures { frame_said result ≡ refusedBy (number reason) place 0 }
 {
     Frame::Refused(Refusal {
         reason,
@@ -548,7 +548,7 @@ fn unframed(reason: Reason, place: usize) -> Frame
 
 // The key and the outer length.
 fn framed(packet: &[u8]) -> Frame
-    ensures { frameSaid result ≡ frame packet.now }
+    ensures { frame_said result ≡ frame packet.now }
 {
     if 8192 < packet.len() {
         return unframed(Reason::PacketTooLong, 0);
@@ -596,7 +596,7 @@ pub struct Ends {
 
 // The rule for first and last, for reader and writer alike.
 pub fn check_ends(ends: Ends) -> Right
-    ensures { rightSaid result ≡ rightEnds ends }
+    ensures { right_said result ≡ right_ends ends }
 {
     if ends.first == 2 {
         if ends.last == 1 {
@@ -619,7 +619,7 @@ pub fn check_ends(ends: Ends) -> Right
 
 // The tag of the item at a place, 0 where there is none.
 fn tag_at(packet: &[u8], at: usize) -> u64
-    ensures { result ≡ (headerIn packet.now at).tag }
+    ensures { result ≡ (header_in packet.now at).tag }
 {
     match item_at(packet, at) {
         Step::Item(item) => item.tag,
@@ -629,7 +629,7 @@ fn tag_at(packet: &[u8], at: usize) -> u64
 
 // The header of the item at a place; where there is none, one with nothing in it.
 fn header_at(packet: &[u8], at: usize) -> Header
-    ensures { result ≡ headerIn packet.now at }
+    ensures { result ≡ header_in packet.now at }
 {
     match item_at(packet, at) {
         Step::Item(item) => item,
@@ -644,7 +644,7 @@ fn header_at(packet: &[u8], at: usize) -> Header
 
 // The first and the last item; where there is none, the first one is said to be absent where the items begin, at the packet's end.
 fn ends_of(packet: &[u8], from: usize, last: Header) -> Ends
-    ensures { result ≡ endsBy packet.now from last }
+    ensures { result ≡ ends_by packet.now from last }
 {
     Ends {
         start: from,
@@ -658,7 +658,7 @@ fn ends_of(packet: &[u8], from: usize, last: Header) -> Ends
 // Whether the two bytes of the last item are the checksum of all before them.
 fn is_summed(packet: &[u8], place: usize) -> bool
     requires { place + 2 ≤ length packet.now }
-    ensures { result ≡ summedAt packet.now place }
+    ensures { result ≡ summed_at packet.now place }
 {
     let end = place + 2;
     let stored = number::value(&packet[place..end]);
@@ -669,7 +669,7 @@ fn is_summed(packet: &[u8], place: usize) -> bool
 // First, last and sum.
 fn closed(packet: &[u8], from: usize, last: Header) -> Right
     requires { last.place + last.size ≤ length packet.now }
-    ensures { rightSaid result ≡ closedBy packet.now from last }
+    ensures { right_said result ≡ closed_by packet.now from last }
 {
     match check_ends(ends_of(packet, from, last)) {
         Right::Refused(refusal) => Right::Refused(refusal),
@@ -690,7 +690,7 @@ fn closed(packet: &[u8], from: usize, last: Header) -> Right
 // Whether an item of one byte is not known, has no value, or has one of its codes.
 fn is_coded(packet: &[u8], known: TagSet, places: &[u16; 128], tag: usize) -> bool
     requires { (tag < 128) × (get_or places.now tag 0 ≤ length packet.now) }
-    ensures { result ≡ codedIn known packet.now places.now tag }
+    ensures { result ≡ coded_in known packet.now places.now tag }
 {
     let end = places[tag] as usize;
     if 0 < end {
@@ -704,14 +704,14 @@ fn is_coded(packet: &[u8], known: TagSet, places: &[u16; 128], tag: usize) -> bo
 // Whether a value was found for a tag.
 fn is_found(places: &[u16; 128], tag: usize) -> bool
     requires { tag < 128 }
-    ensures { result ≡ foundIn places.now tag }
+    ensures { result ≡ found_in places.now tag }
 {
     places[tag] != 0
 }
 
 // Whether what a packet needs has a value: 1, 2 and 65.
 fn is_whole(places: &[u16; 128]) -> bool
-    ensures { result ≡ wholeIn places.now }
+    ensures { result ≡ whole_in places.now }
 {
     if is_found(places, 1) {
         if is_found(places, 2) {
@@ -730,7 +730,7 @@ fn is_clean(
     count: usize,
 ) -> bool
     requires { PlacesIn (length packet.now) places.now }
-    ensures { result ≡ cleanIn known packet.now places.now present count }
+    ensures { result ≡ clean_in known packet.now places.now present count }
 {
     if tagset::size_of(present) != count {
         return false;
@@ -759,8 +759,8 @@ fn concluded(
     noted: Noted,
     passed: Passed,
 ) -> Right
-    requires { Whole known packet.now from (keptBy passed places.now noted.present noted.withdrawn) }
-    ensures { rightSaid result ≡ rightFrom known packet.now from }
+    requires { Whole known packet.now from (kept_by passed places.now noted.present noted.withdrawn) }
+    ensures { right_said result ≡ right_from known packet.now from }
 {
     match closed(packet, from, header_at(packet, passed.last)) {
         Right::Refused(refusal) => Right::Refused(refusal),
@@ -829,7 +829,7 @@ fn check_from(packet: &[u8], from: usize, known: TagSet, places: &mut [u16; 128]
 
 // Where the items begin, for a good knowing set.
 fn begun(packet: &[u8], known: TagSet) -> Frame
-    ensures { frameSaid result ≡ begunBy known packet.now }
+    ensures { frame_said result ≡ begun_by known packet.now }
 {
     if knowing::is_good(known) {
         return framed(packet);
@@ -839,7 +839,7 @@ fn begun(packet: &[u8], known: TagSet) -> Frame
 
 // Whether a receiver accepts a packet: document 01's refusals in their order, but for 2.
 pub fn check(packet: &[u8], known: TagSet) -> Checked
-    ensures { checkSaid result ≡ checked known packet.now }
+    ensures { check_said result ≡ checked known packet.now }
 {
     match begun(packet, known) {
         Frame::Refused(refusal) => Checked::Refused(refusal),

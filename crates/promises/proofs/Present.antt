@@ -8,131 +8,131 @@ use mathlib.Core.Bool.{◌&&◌, not}
 use mathlib.Core.List.{List}
 use lib.ListN.{length, take}
 use Rattle.refusal.specs.Answer.{given, map}
-use Rattle.refusal.proofs.Answers.{map-given, given-same, then-given}
+use Rattle.refusal.proofs.Answers.{map_given, given_same, then_given}
 use Rattle.number.specs.Stored.{Bytes}
 use Rattle.tagset.specs.Sets.{holds, size}
 use Rattle.tagset.specs.declared.TagSet.{TagSet}
-use Rattle.rows.specs.Present.{isPresent, isWithdrawn, has_value, presentIn, withdrawnIn, scanned, rowsWith}
+use Rattle.rows.specs.Present.{is_present, is_withdrawn, has_value, present_in, withdrawn_in, scanned, rows_with}
 use Rattle.packet.specs.Pieces.{Piece}
 use Rattle.packet.specs.Verdict.{body_of, received, checked}
-use Rattle.packet.specs.Said.{checkSaid}
-use Rattle.packet.specs.Rows.{Filled, rowsIn, rows_of, SameTable}
+use Rattle.packet.specs.Said.{check_said}
+use Rattle.packet.specs.Rows.{Filled, rows_in, rows_of, SameTable}
 use Rattle.packet.specs.declared.Accepted.{Accepted}
 use Rattle.packet.specs.declared.Checked.TheVariants as check
-use Rattle.laws.proofs.Tables.{HasRead, has-read, read_count, rows-in-table}
-use Rattle.laws.proofs.Counted.{accepted-scanned, accepted-withdrawn, accepted-valued, accepted-counted, accepted-withdrawn-counted}
-use Rattle.reader.specs.Reads.{Reads, readSaid}
+use Rattle.laws.proofs.Tables.{HasRead, has_read, read_count, rows_in_table}
+use Rattle.laws.proofs.Counted.{accepted_scanned, accepted_withdrawn, accepted_valued, accepted_counted, accepted_withdrawn_counted}
+use Rattle.reader.specs.Reads.{Reads, read_said}
 use Rattle.reader.specs.declared.Reading.{Reading}
 use Rattle.reader.specs.declared.Reading.TheVariants as read
 use Rattle.outgoing.specs.declared.Handed.TheVariants.{Words}
 use Rattle.outgoing.specs.Outgoing.{outgoing}
-use Rattle.outgoing.proofs.Present.{sent-scanned, sent-counted}
-use Rattle.writer.specs.Writes.{writtenWith, written_by, outputBy, written, roomy, writeAnswerWith, writeOutputWith, writeAnswer, writeOutput}
+use Rattle.outgoing.proofs.Present.{sent_scanned, sent_counted}
+use Rattle.writer.specs.Writes.{written_with, written_by, output_by, written, roomy, write_answer_with, write_output_with, write_answer, write_output}
 use Rattle.writer.specs.Writes.{WritesWith, Writes}
 use Rattle.writer.specs.declared.Written.{Written}
 use Rattle.writer.specs.declared.Writing.TheVariants as write
-use Rattle.writer.proofs.Handed.{handed-given}
-use Rattle.promises.proofs.Demands.{written-reads-back}
+use Rattle.writer.proofs.Handed.{handed_given}
+use Rattle.promises.proofs.Demands.{written_reads_back}
 
 -- a packet that was read: the words answer as a scan of the table's rows does, and have as many bits as rows are not carried, or withdrawn
 module _ {K : TagSet} {p t t' : List ℕ} {done : Filled} (c : Reads K p t (read.Rows done) t') where
   has : HasRead K p t done
-  has = has-read K p t done (sym c.answer)
+  has = has_read K p t done (sym c.answer)
 
-  rows : rowsIn 0 done.count t' ≡ rows_of (holds K) has.items
-  rows = ap (rowsIn 0 done.count) (c.table ∙ has.table) ∙ rows-in-table (holds K) has.items t done.count (read_count has)
+  rows : rows_in 0 done.count t' ≡ rows_of (holds K) has.items
+  rows = ap (rows_in 0 done.count) (c.table ∙ has.table) ∙ rows_in_table (holds K) has.items t done.count (read_count has)
 
-  present : done.present ≡ presentIn (rows_of (holds K) has.items)
+  present : done.present ≡ present_in (rows_of (holds K) has.items)
   present = ap (λ f. f.present) (sym has.filled)
 
-  withdrawn : done.withdrawn ≡ withdrawnIn (rows_of (holds K) has.items)
+  withdrawn : done.withdrawn ≡ withdrawn_in (rows_of (holds K) has.items)
   withdrawn = ap (λ f. f.withdrawn) (sym has.filled)
 
-  pub read-words : done.present ≡ presentIn (rowsIn 0 done.count t')
-  read-words = present ∙ ap presentIn (sym rows)
+  pub read_words : done.present ≡ present_in (rows_in 0 done.count t')
+  read_words = present ∙ ap present_in (sym rows)
 
-  pub read-withdrawn : done.withdrawn ≡ withdrawnIn (rowsIn 0 done.count t')
-  read-withdrawn = withdrawn ∙ ap withdrawnIn (sym rows)
+  pub read_withdrawn : done.withdrawn ≡ withdrawn_in (rows_in 0 done.count t')
+  read_withdrawn = withdrawn ∙ ap withdrawn_in (sym rows)
 
   module _ (by : Bytes p) where
-    pub read-scanned : (tag : ℕ) → holds done.present tag ≡ scanned isPresent tag (rowsIn 0 done.count t')
-    read-scanned tag =
-        ap (λ s. holds s tag) present ∙ (accepted-scanned (holds K) p has.items by has.accepted tag ∙ ap (scanned isPresent tag) (sym rows))
+    pub read_scanned : (tag : ℕ) → holds done.present tag ≡ scanned is_present tag (rows_in 0 done.count t')
+    read_scanned tag =
+        ap (λ s. holds s tag) present ∙ (accepted_scanned (holds K) p has.items by has.accepted tag ∙ ap (scanned is_present tag) (sym rows))
 
-    pub read-counted : size done.present ≡ rowsWith isPresent (rowsIn 0 done.count t')
-    read-counted = ap size present ∙ (accepted-counted (holds K) p has.items by has.accepted ∙ ap (rowsWith isPresent) (sym rows))
+    pub read_counted : size done.present ≡ rows_with is_present (rows_in 0 done.count t')
+    read_counted = ap size present ∙ (accepted_counted (holds K) p has.items by has.accepted ∙ ap (rows_with is_present) (sym rows))
 
     -- and of the withdrawn ones
-    pub withdrawn-scanned : (tag : ℕ) → holds done.withdrawn tag ≡ scanned isWithdrawn tag (rowsIn 0 done.count t')
-    withdrawn-scanned tag =
-        ap (λ s. holds s tag) withdrawn ∙ (accepted-withdrawn (holds K) p has.items by has.accepted tag ∙ ap (scanned isWithdrawn tag) (sym rows))
+    pub withdrawn_scanned : (tag : ℕ) → holds done.withdrawn tag ≡ scanned is_withdrawn tag (rows_in 0 done.count t')
+    withdrawn_scanned tag =
+        ap (λ s. holds s tag) withdrawn ∙ (accepted_withdrawn (holds K) p has.items by has.accepted tag ∙ ap (scanned is_withdrawn tag) (sym rows))
 
-    pub withdrawn-counted : size done.withdrawn ≡ rowsWith isWithdrawn (rowsIn 0 done.count t')
-    withdrawn-counted =
-        ap size withdrawn ∙ (accepted-withdrawn-counted (holds K) p has.items by has.accepted ∙ ap (rowsWith isWithdrawn) (sym rows))
+    pub withdrawn_counted : size done.withdrawn ≡ rows_with is_withdrawn (rows_in 0 done.count t')
+    withdrawn_counted =
+        ap size withdrawn ∙ (accepted_withdrawn_counted (holds K) p has.items by has.accepted ∙ ap (rows_with is_withdrawn) (sym rows))
 
     -- what a screen asks: a tag that is there and not withdrawn has a row with a value, and only such a one
-    pub value-scanned : (tag : ℕ) → holds done.present tag && not (holds done.withdrawn tag) ≡ scanned has_value tag (rowsIn 0 done.count t')
-    value-scanned tag =
+    pub value_scanned : (tag : ℕ) → holds done.present tag && not (holds done.withdrawn tag) ≡ scanned has_value tag (rows_in 0 done.count t')
+    value_scanned tag =
         ap₂ (λ s u. holds s tag && not (holds u tag)) present withdrawn
-        ∙ (accepted-valued (holds K) p has.items by has.accepted tag ∙ ap (scanned has_value tag) (sym rows))
+        ∙ (accepted_valued (holds K) p has.items by has.accepted tag ∙ ap (scanned has_value tag) (sym rows))
 
   -- and who only checks it has the same words
-  module _ (b : Accepted) (e : checkSaid (check.Accepted b) ≡ checked K p) where
+  module _ (b : Accepted) (e : check_said (check.Accepted b) ≡ checked K p) where
     body : body_of (holds K) has.items ≡ b
     unfolding checked received
     body =
-        let f = map-given (body_of (holds K)) (received K p) (sym e) in
-        let same : f.0 ≡ has.items = given-same (sym f.1 ∙ rw has.right has.accepted) in
+        let f = map_given (body_of (holds K)) (received K p) (sym e) in
+        let same : f.0 ≡ has.items = given_same (sym f.1 ∙ rw has.right has.accepted) in
         ap (body_of (holds K)) (sym same) ∙ f.2
 
-    pub check-words : b.present ≡ done.present
-    check-words = ap (λ a. a.present) (sym body) ∙ sym present
+    pub check_words : b.present ≡ done.present
+    check_words = ap (λ a. a.present) (sym body) ∙ sym present
 
-    pub check-withdrawn : b.withdrawn ≡ done.withdrawn
-    check-withdrawn = ap (λ a. a.withdrawn) (sym body) ∙ sym withdrawn
+    pub check_withdrawn : b.withdrawn ≡ done.withdrawn
+    check_withdrawn = ap (λ a. a.withdrawn) (sym body) ∙ sym withdrawn
 
 -- rows that were written with their words: the words are those that a scan gives, and it is what the plain writer would have written
 module _ {K s : TagSet} {count : ℕ} {words b o o' : List ℕ} {w : Written} (c : WritesWith K (Words s) count words b o (write.Packet w) o') where
   record Agreed : Type 0 where
     cs : List Piece
     plain : written K count words b (length o) ≡ given cs
-    with-words : writtenWith K (Words s) count words b (length o) ≡ given cs
+    with_words : written_with K (Words s) count words b (length o) ≡ given cs
     bytes : written_by cs ≡ w
-    same : s ≡ presentIn (rowsIn 0 count words)
+    same : s ≡ present_in (rows_in 0 count words)
 
   agreed : Agreed
-  unfolding writeAnswerWith
+  unfolding write_answer_with
   agreed =
-      let f = map-given written_by (writtenWith K (Words s) count words b (length o)) (sym c.answer) in
-      let g = handed-given K count words b (length o) s f.0 f.1 in
-      record { cs = f.0; plain = g.0; with-words = f.1; bytes = f.2; same = g.1 }
+      let f = map_given written_by (written_with K (Words s) count words b (length o)) (sym c.answer) in
+      let g = handed_given K count words b (length o) s f.0 f.1 in
+      record { cs = f.0; plain = g.0; with_words = f.1; bytes = f.2; same = g.1 }
 
-  pub written-words : s ≡ presentIn (rowsIn 0 count words)
-  written-words = agreed.same
+  pub written_words : s ≡ present_in (rows_in 0 count words)
+  written_words = agreed.same
 
-  pub written-plainly : Writes K count words b o (write.Packet w) o'
-  unfolding writeAnswer writeOutput writeOutputWith
-  written-plainly =
+  pub written_plainly : Writes K count words b o (write.Packet w) o'
+  unfolding write_answer write_output write_output_with
+  written_plainly =
       record {
         answer = sym (ap (map written_by) agreed.plain ∙ ap given agreed.bytes);
-        output = c.output ∙ ap (outputBy o) (agreed.with-words ∙ sym agreed.plain);
+        output = c.output ∙ ap (output_by o) (agreed.with_words ∙ sym agreed.plain);
       }
 
   goes : (cs : List Piece) × (outgoing K count words b ≡ given cs)
   unfolding written
-  goes = let g = then-given (outgoing K count words b) (roomy (length o)) agreed.plain in (g.between, g.first)
+  goes = let g = then_given (outgoing K count words b) (roomy (length o)) agreed.plain in (g.between, g.first)
 
-  pub written-scanned : (tag : ℕ) → holds s tag ≡ scanned isPresent tag (rowsIn 0 count words)
-  written-scanned tag = ap (λ x. holds x tag) written-words ∙ (sent-scanned K count words b goes.0 goes.1 tag)
+  pub written_scanned : (tag : ℕ) → holds s tag ≡ scanned is_present tag (rows_in 0 count words)
+  written_scanned tag = ap (λ x. holds x tag) written_words ∙ (sent_scanned K count words b goes.0 goes.1 tag)
 
-  pub written-counted : size s ≡ rowsWith isPresent (rowsIn 0 count words)
-  written-counted = ap size written-words ∙ (sent-counted K count words b goes.0 goes.1)
+  pub written_counted : size s ≡ rows_with is_present (rows_in 0 count words)
+  written_counted = ap size written_words ∙ (sent_counted K count words b goes.0 goes.1)
 
   -- so what was written with its words reads back with them
-  pub written-with-reads-back : {t t' : List ℕ} {r : Reading} → 512 ≤ length t → Reads K (take w.size o') t r t'
-      → (readSaid r ≡ given (record { count = count; present = s; withdrawn = withdrawnIn (rowsIn 0 count words) }))
-      × SameTable b (take w.size o') (rowsIn 0 count words) (rowsIn 0 count t')
-  written-with-reads-back long d =
-      let s = written-reads-back written-plainly long d in
-      (s.0 ∙ ap (λ x. given (record { count = count; present = x; withdrawn = withdrawnIn (rowsIn 0 count words) })) (sym written-words), s.1)
+  pub written_with_reads_back : {t t' : List ℕ} {r : Reading} → 512 ≤ length t → Reads K (take w.size o') t r t'
+      → (read_said r ≡ given (record { count = count; present = s; withdrawn = withdrawn_in (rows_in 0 count words) }))
+      × SameTable b (take w.size o') (rows_in 0 count words) (rows_in 0 count t')
+  written_with_reads_back long d =
+      let s = written_reads_back written_plainly long d in
+      (s.0 ∙ ap (λ x. given (record { count = count; present = x; withdrawn = withdrawn_in (rows_in 0 count words) })) (sym written_words), s.1)

@@ -6,7 +6,7 @@ use Rattle.knowing.specs.Good.{good}
 use Rattle.packet.specs.Pieces.{Item}
 use Rattle.packet.specs.Allowed.{Allowed}
 use Rattle.packet.specs.Verdict.{body_of}
-use Rattle.packet.specs.Rows.{Filled, filledBy, table_of}
+use Rattle.packet.specs.Rows.{Filled, filled_by, table_of}
 use Rattle.packet.specs.declared.Accepted.{Accepted}
 
 -- a packet that document 01 allows to who knows K, and its items
@@ -33,5 +33,5 @@ pub record CheckedAs (K : TagSet) (p : List ℕ) (b : Accepted) : Type 0 where
 pub record ReadAs (K : TagSet) (p t : List ℕ) (done : Filled) (t' : List ℕ) : Type 0 where
   pub packet : AllowedTo K p
   pub long : 512 ≤ length t
-  pub filled : done ≡ filledBy (holds K) packet.items
+  pub filled : done ≡ filled_by (holds K) packet.items
   pub table : t' ≡ table_of (holds K) packet.items t

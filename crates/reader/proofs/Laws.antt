@@ -9,21 +9,21 @@ use mathlib.Core.Bool.{Bool, true, false}
 use mathlib.Core.List.{List, [], ◌∷◌, ◌++◌, append_assoc}
 use lib.ListN.{length, get_or, set, take, drop, replicate, length-append, length-replicate, length-take, length-drop}
 use lib.Seq.{sets, sets-eq}
-use Rattle.base.proofs.Cases.{byLt, clash}
+use Rattle.base.proofs.Cases.{by_lt, clash}
 use Rattle.number.specs.Stored.{Bytes}
 use Rattle.tagset.specs.Sets.{holds}
 use Rattle.tagset.specs.declared.TagSet.{TagSet}
-use Rattle.tagset.proofs.Laws.{Words, holds-none}
-use Rattle.catalogue.specs.code.Column.{shapeColumn, shapeByte}
-use Rattle.catalogue.proofs.Columns.{byte-in-column}
+use Rattle.tagset.proofs.Laws.{Words, holds_none}
+use Rattle.catalogue.specs.code.Column.{shape_column, shape_byte}
+use Rattle.catalogue.proofs.Columns.{byte_in_column}
 use Rattle.packet.specs.Pieces.{Item}
-use Rattle.packet.specs.Rows.{RowWords, shapeFor, row_of, rows_of, words, table_of}
+use Rattle.packet.specs.Rows.{RowWords, shape_for, row_of, rows_of, words, table_of}
 use Rattle.packet.specs.declared.Header.{Header}
-use Rattle.reader.specs.code.Filling.{putRow}
+use Rattle.reader.specs.code.Filling.{put_row}
 
 -- one store, then the rest of a run of zeros to word e
-pub clear-more : (t : List ℕ) (k e : ℕ) → k < e → sets (set t k 0) (k + 1) (replicate (e - (k + 1)) 0) ≡ sets t k (replicate (e - k) 0)
-clear-more t k e h =
+pub clear_more : (t : List ℕ) (k e : ℕ) → k < e → sets (set t k 0) (k + 1) (replicate (e - (k + 1)) 0) ≡ sets t k (replicate (e - k) 0)
+clear_more t k e h =
     let one : e - k ≡ suc (e - (k + 1)) = omega arith in
     rw (one, add-one)
 
@@ -33,9 +33,9 @@ clear_none t k e h =
     rw none
 
 -- the four stores of a row
-pub row-stored : (t : List ℕ) (n : ℕ) (r : RowWords)
-    → set (set (set (set t (4 * n) r.tag) (4 * n + 1) r.kind) (4 * n + 2) r.code) (4 * n + 3) r.part ≡ putRow t n r
-row-stored t n r =
+pub row_stored : (t : List ℕ) (n : ℕ) (r : RowWords)
+    → set (set (set (set t (4 * n) r.tag) (4 * n + 1) r.kind) (4 * n + 2) r.code) (4 * n + 3) r.part ≡ put_row t n r
+row_stored t n r =
     let w : ℕ = 4 * n in
     let e1 : w + 1 ≡ suc w = omega arith in
     let e2 : w + 2 ≡ suc (suc w) = omega arith in
@@ -44,22 +44,22 @@ row-stored t n r =
 
 -- a row, then those of the rest
 pub row_more : (K : ℕ → Bool) (t : List ℕ) (n : ℕ) (i : Item) (is : List Item)
-    → sets (putRow t n (row_of K i)) (4 * (n + 1)) (words (rows_of K is)) ≡ sets t (4 * n) (words (rows_of K (i ∷ is)))
+    → sets (put_row t n (row_of K i)) (4 * (n + 1)) (words (rows_of K is)) ≡ sets t (4 * n) (words (rows_of K (i ∷ is)))
 unfolding rows_of words
 row_more K t n i is =
     let e : 4 * (n + 1) ≡ suc (suc (suc (suc (4 * n)))) = omega arith in
     rw e
 
-pub words-length : (K : ℕ → Bool) (is : List Item) → length (words (rows_of K is)) ≡ 4 * length is
+pub words_length : (K : ℕ → Bool) (is : List Item) → length (words (rows_of K is)) ≡ 4 * length is
 unfolding rows_of words
-words-length K [] = refl
-words-length K (i ∷ is) = omega (arith, words-length K is)
+words_length K [] = refl
+words_length K (i ∷ is) = omega (arith, words_length K is)
 
-sets-append : (xs ys l : List ℕ) (i : ℕ) → sets (sets l i xs) (i + length xs) ys ≡ sets l i (xs ++ ys)
-sets-append [] ys l i = rw add-zero
-sets-append (x ∷ xs) ys l i =
+sets_append : (xs ys l : List ℕ) (i : ℕ) → sets (sets l i xs) (i + length xs) ys ≡ sets l i (xs ++ ys)
+sets_append [] ys l i = rw add-zero
+sets_append (x ∷ xs) ys l i =
     let e : i + suc (length xs) ≡ suc i + length xs = omega arith in
-    rw e (sets-append xs ys (set l i x) (suc i))
+    rw e (sets_append xs ys (set l i x) (suc i))
 
 -- the rows stored, and then zeros to 512: the table
 pub table_is : (K : ℕ → Bool) (is : List Item) (t : List ℕ) → length is ≤ 128 → 512 ≤ length t
@@ -68,28 +68,28 @@ unfolding table_of
 table_is K is t few room =
     let rs : List ℕ = words (rows_of K is) in
     let zs : List ℕ = replicate (512 - 4 * length is) 0 in
-    let at_rows : 4 * length is ≡ 0 + length rs = omega (arith, words-length K is) in
-    let whole : 0 + length (rs ++ zs) ≡ 512 = omega (arith, length-append rs zs, words-length K is, length-replicate {A = ℕ} (512 - 4 * length is) 0) in
+    let at_rows : 4 * length is ≡ 0 + length rs = omega (arith, words_length K is) in
+    let whole : 0 + length (rs ++ zs) ≡ 512 = omega (arith, length-append rs zs, words_length K is, length-replicate {A = ℕ} (512 - 4 * length is) 0) in
     ap (λ k. sets (sets t 0 rs) k zs) at_rows
-    ∙ (sets-append rs zs t 0
+    ∙ (sets_append rs zs t 0
     ∙ (sets-eq (rs ++ zs) t 0 (omega arith)
     ∙ (ap (λ k. rs ++ zs ++ drop k t) whole
     ∙ append_assoc rs zs (drop 512 t))))
 
 -- the value as it stands
 module _ (p : List ℕ) (by : Bytes p) (i : Header) (inside : i.place + i.size ≤ length p) where
-  pub value-length : length (take i.size (drop i.place p)) ≡ i.size
-  value-length = rw (length-take, length-drop) (omega arith)
+  pub value_length : length (take i.size (drop i.place p)) ≡ i.size
+  value_length = rw (length-take, length-drop) (omega arith)
 
 -- the byte of a tag's shape for a receiver
 module _ (K : TagSet) where
   pub held_below : Words K → (t : ℕ) → holds K t ≡ true → t < 128
-  held_below w t e = byLt t 128 (λ h. h) (λ h. clash (sym e ∙ holds-none K w t h))
+  held_below w t e = by_lt t 128 (λ h. h) (λ h. clash (sym e ∙ holds_none K w t h))
 
-  pub byte-known : Words K → (t : ℕ) → holds K t ≡ true → get_or shapeColumn t 0 ≡ shapeByte (shapeFor (holds K) t)
-  unfolding shapeFor
-  byte-known w t e = rw e (byte-in-column t (held_below w t e))
+  pub byte_known : Words K → (t : ℕ) → holds K t ≡ true → get_or shape_column t 0 ≡ shape_byte (shape_for (holds K) t)
+  unfolding shape_for
+  byte_known w t e = rw e (byte_in_column t (held_below w t e))
 
-  pub byte-unknown : (t : ℕ) → holds K t ≡ false → shapeByte (shapeFor (holds K) t) ≡ 64
-  unfolding shapeFor
-  byte-unknown t e = rw e
+  pub byte_unknown : (t : ℕ) → holds K t ≡ false → shape_byte (shape_for (holds K) t) ≡ 64
+  unfolding shape_for
+  byte_unknown t e = rw e

@@ -2,14 +2,14 @@
 use Rattle.std.specs.Prelude.{ℕ, ◌≡◌, List}
 use Rattle.refusal.specs.Answer.{Answer, given, refusal}
 use Rattle.tagset.specs.declared.TagSet.{TagSet}
-use Rattle.packet.specs.Rows.{Filled, readAnswer, readTable}
+use Rattle.packet.specs.Rows.{Filled, read_answer, read_table}
 use Rattle.reader.specs.declared.Reading.{Reading}
 use Rattle.reader.specs.declared.Reading.TheVariants.{Rows, Refused}
 
-abbrev pub readSaid : Reading → Answer Filled
-readSaid (Rows f) = given f
-readSaid (Refused r) = refusal r
+abbrev pub read_said : Reading → Answer Filled
+read_said (Rows f) = given f
+read_said (Refused r) = refusal r
 
 pub record Reads (K : TagSet) (p t : List ℕ) (r : Reading) (t' : List ℕ) : Type 0 where
-  pub answer : readSaid r ≡ readAnswer K p t
-  pub table : t' ≡ readTable K p t
+  pub answer : read_said r ≡ read_answer K p t
+  pub table : t' ≡ read_table K p t

@@ -6,12 +6,12 @@ ghost use Rattle.refusal.specs.Numbers.{number};
 ghost use Rattle.refusal.specs.Answer.{refused as refusedBy};
 ghost use Rattle.tagset.specs.Sets.{holds};
 ghost use Rattle.refusal.specs.Answer.{given};
-ghost use Rattle.catalogue.specs.code.Column.{shapeColumn, shapeByte};
+ghost use Rattle.catalogue.specs.code.Column.{shape_column, shape_byte};
 ghost use Rattle.packet.specs.Said.{header_at};
-ghost use Rattle.packet.specs.code.Headers.{itemBy};
-ghost use Rattle.packet.specs.Rows.{shapeFor, row_of, rows_of, words};
-ghost use Rattle.reader.specs.Reads.{Reads, readSaid};
-ghost use Rattle.reader.specs.code.Filling.{ItemAt, top_of, kindBy, putRow, Narrow, AcceptsFrom, items_of};
+ghost use Rattle.packet.specs.code.Headers.{item_by};
+ghost use Rattle.packet.specs.Rows.{shape_for, row_of, rows_of, words};
+ghost use Rattle.reader.specs.Reads.{Reads, read_said};
+ghost use Rattle.reader.specs.code.Filling.{ItemAt, top_of, kind_by, put_row, Narrow, AcceptsFrom, items_of};
 
 use packet::{Checked, Header, Step};
 use refusal::{Reason, Refusal};
@@ -25,7 +25,7 @@ pub enum Reading {
 }
 
 fn refused(reason: Reason) -> Reading
-    ensures { readSaid result ≡ refusedBy (number reason) 0 0 }
+    ensures { read_said result ≡ refusedBy (number reason) 0 0 }
 {
     Reading::Refused(Refusal {
         reason,
@@ -69,8 +69,8 @@ fn header_at(packet: &[u8], at: usize) -> Header
 
 // The byte of a tag's shape, as a receiver sees it: it carries what it does not know.
 fn byte_for(column: &[u8; 128], known: TagSet, tag: u64) -> u64
-    requires { column.now ≡ shapeColumn }
-    ensures { result ≡ shapeByte (shapeFor (holds known) tag) }
+    requires { column.now ≡ shape_column }
+    ensures { result ≡ shape_byte (shape_for (holds known) tag) }
 {
     if tagset::has(known, tag) {
         let at = tag as usize;
@@ -101,7 +101,7 @@ fn lowest(top: u64, width: u64) -> u64
 // is withdrawn, if it is known.
 fn kind_by(byte: u64, size: u64, top: u64) -> u64
     requires { byte < 256 }
-    ensures { result ≡ kindBy byte size top }
+    ensures { result ≡ kind_by byte size top }
 {
     let kind = byte / 16 % 8;
     if size == 0 {
@@ -119,9 +119,9 @@ fn kind_by(byte: u64, size: u64, top: u64) -> u64
 // The row of an item. The eight bytes that end with its value are there, for it stands past the key; of them a number has as many as its length,
 // which lies within the mask, and text and carried bytes have none.
 fn row_of(packet: &[u8], column: &[u8; 128], known: TagSet, item: Header) -> RowWords
-    requires { (column.now ≡ shapeColumn) × (item.place + item.size ≤ length packet.now) × (length packet.now ≤ 8192)
-        × Narrow (shapeFor (holds known) item.tag) item.size × (8 ≤ item.place + item.size) }
-    ensures { result ≡ row_of (holds known) (itemBy packet.now item) }
+    requires { (column.now ≡ shape_column) × (item.place + item.size ≤ length packet.now) × (length packet.now ≤ 8192)
+        × Narrow (shape_for (holds known) item.tag) item.size × (8 ≤ item.place + item.size) }
+    ensures { result ≡ row_of (holds known) (item_by packet.now item) }
 {
     let end = item.place + item.size;
     let byte = byte_for(column, known, item.tag);
@@ -140,7 +140,7 @@ fn row_of(packet: &[u8], column: &[u8; 128], known: TagSet, item: Header) -> Row
 // A row's four words, at its place in the table.
 fn put_row(table: &mut [u64], n: usize, row: RowWords)
     requires { (n < 128) × (4 * n + 4 ≤ length table.old) }
-    ensures { table.new ≡ putRow table.old n row }
+    ensures { table.new ≡ put_row table.old n row }
 {
     let at = 4 * n;
     table[at] = row.tag;

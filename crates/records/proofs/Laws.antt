@@ -9,51 +9,51 @@ use lib.Dec.{eqb}
 use lib.Signed.{lt_z}
 use lib.ListN.{length, set, get_or, replicate}
 use borrow.Author.Tests.{eqb-true, eq-eqb}
-use Rattle.base.proofs.Cases.{byBool}
-use Rattle.catalogue.specs.Items.{itemOf}
-use Rattle.catalogue.specs.Shapes.{isMarked, unfixed, shape_by, shape_of}
+use Rattle.base.proofs.Cases.{by_bool}
+use Rattle.catalogue.specs.Items.{item_of}
+use Rattle.catalogue.specs.Shapes.{is_marked, unfixed, shape_by, shape_of}
 use Rattle.catalogue.specs.declared.Found.TheVariants.{Known, Absent}
 use Rattle.catalogue.specs.declared.Item.{Item}
 use Rattle.catalogue.specs.declared.Shape.{Shape}
 use Rattle.catalogue.specs.declared.Shape.TheVariants as shape
-use Rattle.catalogue.proofs.Columns.{number-ranged}
+use Rattle.catalogue.proofs.Columns.{number_ranged}
 use Rattle.rows.specs.declared.RowWords.{RowWords}
 use Rattle.rows.specs.declared.Row.{Row}
 use Rattle.rows.specs.declared.Content.{Content}
-use Rattle.records.specs.Images.{width_by, width_of, saysFor, rowSaying, image_of, none, putImage, imagesInto, fitting, imageTable}
+use Rattle.records.specs.Images.{width_by, width_of, says_for, row_saying, image_of, none, put_image, images_into, fitting, image_table}
 
-unfixed-by : (i : Item) (b : Bool) → lt_z i.low i.high ≡ b → ◌≡◌ {A = ℕ} 0 (width_by (unfixed i))
-unfixed-by i true e = rw e
-unfixed-by i false e = rw e
+unfixed_by : (i : Item) (b : Bool) → lt_z i.low i.high ≡ b → ◌≡◌ {A = ℕ} 0 (width_by (unfixed i))
+unfixed_by i true e = rw e
+unfixed_by i false e = rw e
 
-known_by : (i : Item) (b : Bool) → eqb i.width 0 ≡ b → i.width ≡ width_by (cond b (unfixed i) (shape.Number i.width i.width (isMarked i.sign)))
-known_by i true e = eqb-true _ 0 e ∙ unfixed-by i (lt_z i.low i.high) refl
+known_by : (i : Item) (b : Bool) → eqb i.width 0 ≡ b → i.width ≡ width_by (cond b (unfixed i) (shape.Number i.width i.width (is_marked i.sign)))
+known_by i true e = eqb-true _ 0 e ∙ unfixed_by i (lt_z i.low i.high) refl
 known_by i false e = rw (eq-eqb i.width i.width refl)
 
-pub width-known : (t : ℕ) (i : Item) → itemOf t ≡ Known i → i.width ≡ width_of t
+pub width_known : (t : ℕ) (i : Item) → item_of t ≡ Known i → i.width ≡ width_of t
 unfolding shape_of
-width-known t i e = known_by i (eqb i.width 0) refl ∙ ap (λ f. width_by (shape_by f)) (sym e)
+width_known t i e = known_by i (eqb i.width 0) refl ∙ ap (λ f. width_by (shape_by f)) (sym e)
 
-pub width-absent : (t : ℕ) → itemOf t ≡ Absent → ◌≡◌ {A = ℕ} 0 (width_of t)
+pub width_absent : (t : ℕ) → item_of t ≡ Absent → ◌≡◌ {A = ℕ} 0 (width_of t)
 unfolding shape_of
-width-absent t e = ap (λ f. width_by (shape_by f)) (sym e)
+width_absent t e = ap (λ f. width_by (shape_by f)) (sym e)
 
 width-by : (t : ℕ) (s : Shape) → shape_of t ≡ s → width_by s ≤ 8
 width-by t (shape.Number l m k) e =
-    byBool (eqb l m) (λ q. rw q (number-ranged t l m k e).few) (λ q. rw q (omega arith))
+    by_bool (eqb l m) (λ q. rw q (number_ranged t l m k e).few) (λ q. rw q (omega arith))
 width-by t shape.Text e = omega arith
 width-by t shape.Absent e = omega arith
 
 pub width_small : (t : ℕ) → width_of t ≤ 8
 width_small t = width-by t (shape_of t) refl
 
-pub image-by : (r : Row) (c : Content) → r.content ≡ c → rowSaying r.tag (saysFor r.tag c) ≡ image_of r
+pub image_by : (r : Row) (c : Content) → r.content ≡ c → row_saying r.tag (says_for r.tag c) ≡ image_of r
 unfolding image_of
-image-by r c e = ap (λ x. rowSaying r.tag (saysFor r.tag x)) (sym e)
+image_by r c e = ap (λ x. row_saying r.tag (says_for r.tag x)) (sym e)
 
 -- the four stores, one after the other
 pub puts : (t : List ℕ) (n : ℕ) (r s : RowWords) → r ≡ s → set (set (set (set t (4 * n) r.tag) (4 * n + 1) r.kind) (4 * n + 2) r.code) (4 * n + 3)
-    r.part ≡ putImage t n s
+    r.part ≡ put_image t n s
 puts t n r s e =
     let one : 4 * n + 1 ≡ suc (4 * n) = omega arith in
     let two : 4 * n + 2 ≡ suc (suc (4 * n)) = omega arith in
@@ -61,14 +61,14 @@ puts t n r s e =
     rw (e, one, two, three)
 
 -- the table before the first record, and with one record more
-pub images-none : (rs : List Row) (t : List ℕ) → t ≡ imagesInto 0 rs t
-unfolding imagesInto
-images-none rs t = refl
+pub images_none : (rs : List Row) (t : List ℕ) → t ≡ images_into 0 rs t
+unfolding images_into
+images_none rs t = refl
 
-pub images-more : (n : ℕ) (rs : List Row) (t : List ℕ) → putImage (imagesInto n rs t) n (image_of (get_or rs n none)) ≡ imagesInto (suc n) rs t
-unfolding imagesInto
-images-more n rs t = refl
+pub images_more : (n : ℕ) (rs : List Row) (t : List ℕ) → put_image (images_into n rs t) n (image_of (get_or rs n none)) ≡ images_into (suc n) rs t
+unfolding images_into
+images_more n rs t = refl
 
-pub table_is : (rs : List Row) → imagesInto (fitting (length rs)) rs (replicate 512 0) ≡ imageTable rs
-unfolding imageTable
+pub table_is : (rs : List Row) → images_into (fitting (length rs)) rs (replicate 512 0) ≡ image_table rs
+unfolding image_table
 table_is rs = refl

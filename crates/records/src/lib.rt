@@ -2,8 +2,8 @@
 // What it answers and writes is the word writer's on the records' images.
 ghost use Rattle.std.specs.Prelude.{◌≡◌, ◌<◌, ◌≤◌, length, get_or, replicate};
 ghost use Rattle.writer.specs.Writes.{Writes};
-ghost use Rattle.rows.specs.Meaning.{markCode};
-ghost use Rattle.records.specs.Images.{width_of, rowWith, image_of, none, putImage, imagesInto, fitting, imageTable};
+ghost use Rattle.rows.specs.Meaning.{mark_code};
+ghost use Rattle.records.specs.Images.{width_of, row_with, image_of, none, put_image, images_into, fitting, image_table};
 
 use catalogue::Found;
 use rows::{Content, Part, Row, RowWords};
@@ -52,7 +52,7 @@ fn width_of(tag: u64) -> usize
 // The code of so many bytes with only the top bit set.
 fn mark_code(width: usize) -> u64
     requires { width ≤ 8 }
-    ensures { result ≡ markCode width }
+    ensures { result ≡ mark_code width }
 {
     if width == 0 {
         return 1;
@@ -65,7 +65,7 @@ const NO_KIND: u64 = 0;
 
 // The four words of a kind and a code, and of where the bytes stand.
 fn row_with(tag: u64, kind: u64, code: u64, part: Part) -> RowWords
-    ensures { result ≡ rowWith tag kind code part }
+    ensures { result ≡ row_with tag kind code part }
 {
     let place = part.place;
     let length = part.length;
@@ -118,7 +118,7 @@ fn image_of(row: Row) -> RowWords
 // The table with a record's words as row n.
 fn put_record(table: [u64; 512], n: usize, row: Row) -> [u64; 512]
     requires { n < 128 }
-    ensures { result ≡ putImage table n (image_of row) }
+    ensures { result ≡ put_image table n (image_of row) }
 {
     let words = image_of(row);
     let mut t = table;
@@ -132,7 +132,7 @@ fn put_record(table: [u64; 512], n: usize, row: Row) -> [u64; 512]
 // The words of the first n records, and zeros after them.
 fn table_of(records: &[Row], n: usize) -> [u64; 512]
     requires { (n ≤ 128) × (n ≤ length records.now) }
-    ensures { result ≡ imagesInto n records.now (replicate 512 0) }
+    ensures { result ≡ images_into n records.now (replicate 512 0) }
 {
     let mut t = blank();
     let mut i = 0;
@@ -157,7 +157,7 @@ fn write_table(
 
 // Writes the records as a packet, with the buffer that text and carried records point into.
 pub fn write_records(known: TagSet, records: &[Row], buffer: &[u8], out: &mut [u8]) -> Writing
-    ensures { Writes known (length records.now) (imageTable records.now)
+    ensures { Writes known (length records.now) (image_table records.now)
         buffer.now out.old result out.new }
 {
     let c = count(records);
@@ -168,7 +168,7 @@ pub fn write_records(known: TagSet, records: &[Row], buffer: &[u8], out: &mut [u
 
 // The same for an array of three, whose callers lend no records themselves.
 pub fn write_three(known: TagSet, records: [Row; 3], buffer: &[u8], out: &mut [u8]) -> Writing
-    ensures { Writes known (length records) (imageTable records) buffer.now out.old result out.new }
+    ensures { Writes known (length records) (image_table records) buffer.now out.old result out.new }
 {
     write_records(known, &records, buffer, out)
 }

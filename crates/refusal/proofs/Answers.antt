@@ -7,19 +7,19 @@ use Rattle.base.proofs.Cases.{never}
 use Rattle.refusal.specs.Answer.{Answer, given, refused, map, then}
 
 -- a refusal gives nothing
-pub not-given {ℓ} : {C : Type ℓ} {A : Type 0} {x : A} {n p t : ℕ} → refused n p t ≡ given x → C
-not-given e = never (cc)
+pub not_given {ℓ} : {C : Type ℓ} {A : Type 0} {x : A} {n p t : ℕ} → refused n p t ≡ given x → C
+not_given e = never (cc)
 
-pub given-same : {A : Type 0} {x y : A} → given x ≡ given y → x ≡ y
-given-same e = cc
+pub given_same : {A : Type 0} {x y : A} → given x ≡ given y → x ≡ y
+given_same e = cc
 
 -- a test that was passed, or missed, on the way to what is given
 pub passed : {A : Type 0} (b : Bool) (x : Answer A) (n p t : ℕ) {y : A} → cond b x (refused n p t) ≡ given y → (b ≡ true) × (x ≡ given y)
 passed true x n p t e = (refl, e)
-passed false x n p t e = not-given e
+passed false x n p t e = not_given e
 
 pub missed : {A : Type 0} (b : Bool) (x : Answer A) (n p t : ℕ) {y : A} → cond b (refused n p t) x ≡ given y → (b ≡ false) × (x ≡ given y)
-missed true x n p t e = not-given e
+missed true x n p t e = not_given e
 missed false x n p t e = (refl, e)
 
 module _ {A B : Type 0} where
@@ -29,27 +29,27 @@ module _ {A B : Type 0} where
     pub first : a ≡ given between
     pub second : f between ≡ given y
 
-  pub then-given : (a : Answer A) (f : A → Answer B) {y : B} → then a f ≡ given y → Steps a f y
-  then-given (given x) f e = record { between = x; first = refl; second = e }
-  then-given (refused n p t) f e = not-given e
+  pub then_given : (a : Answer A) (f : A → Answer B) {y : B} → then a f ≡ given y → Steps a f y
+  then_given (given x) f e = record { between = x; first = refl; second = e }
+  then_given (refused n p t) f e = not_given e
 
-  pub map-given : (f : A → B) (a : Answer A) {y : B} → map f a ≡ given y → (x : A) × (a ≡ given x) × (f x ≡ y)
-  map-given f (given x) e = (x, refl, given-same e)
-  map-given f (refused n p t) e = not-given e
+  pub map_given : (f : A → B) (a : Answer A) {y : B} → map f a ≡ given y → (x : A) × (a ≡ given x) × (f x ≡ y)
+  map_given f (given x) e = (x, refl, given_same e)
+  map_given f (refused n p t) e = not_given e
 
-  pub map-refused : (f : A → B) (a : Answer A) (n p t : ℕ) → map f a ≡ refused n p t → a ≡ refused n p t
-  map-refused f (given x) n p t e = never (cc)
-  map-refused f (refused m q u) n p t e = cc
+  pub map_refused : (f : A → B) (a : Answer A) (n p t : ℕ) → map f a ≡ refused n p t → a ≡ refused n p t
+  map_refused f (given x) n p t e = never (cc)
+  map_refused f (refused m q u) n p t e = cc
 
   -- two steps are the same where they are for all that the first answer may give
   pub then_same : (a : Answer A) (f g : A → Answer B) → ((x : A) → a ≡ given x → f x ≡ g x) → then a f ≡ then a g
   then_same (given x) f g h = h x refl
   then_same (refused n p t) f g h = refl
 
-  pub map-then : {C : Type 0} (h : B → C) (a : Answer A) (f : A → Answer B) → map h (then a f) ≡ then a (λ x. map h (f x))
-  map-then h (given x) f = refl
-  map-then h (refused n p t) f = refl
+  pub map_then : {C : Type 0} (h : B → C) (a : Answer A) (f : A → Answer B) → map h (then a f) ≡ then a (λ x. map h (f x))
+  map_then h (given x) f = refl
+  map_then h (refused n p t) f = refl
 
-  pub then-then : {C : Type 0} (a : Answer A) (f : A → Answer B) (g : B → Answer C) → then (then a f) g ≡ then a (λ x. then (f x) g)
-  then-then (given x) f g = refl
-  then-then (refused n p t) f g = refl
+  pub then_then : {C : Type 0} (a : Answer A) (f : A → Answer B) (g : B → Answer C) → then (then a f) g ≡ then a (λ x. then (f x) g)
+  then_then (given x) f g = refl
+  then_then (refused n p t) f g = refl

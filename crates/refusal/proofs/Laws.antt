@@ -23,38 +23,38 @@ reasons =
 pub numbered : ℕ → Reason
 numbered n = get_or reasons (n - 1) SetNotGood
 
-number-back : (r : Reason) → numbered (number r) ≡ r
+number_back : (r : Reason) → numbered (number r) ≡ r
 unfolding numbered reasons
-number-back SetNotGood = refl
-number-back TableTooShort = refl
-number-back PacketTooLong = refl
-number-back KeyDiffers = refl
-number-back OuterLengthWrong = refl
-number-back TooManyItems = refl
-number-back TagBroken = refl
-number-back LengthBroken = refl
-number-back FirstNotTimeStamp = refl
-number-back LastNotChecksum = refl
-number-back ChecksumDiffers = refl
-number-back LengthNotAllowed = refl
-number-back KnownTagTwice = refl
-number-back CodeNotAllowed = refl
-number-back VersionMissing = refl
-number-back RowCountTooLarge = refl
-number-back RowBad = refl
-number-back OutputTooShort = refl
-number-back NoScale = refl
-number-back NotANumber = refl
-number-back ValueOutOfRange = refl
-number-back WordsDisagree = refl
+number_back SetNotGood = refl
+number_back TableTooShort = refl
+number_back PacketTooLong = refl
+number_back KeyDiffers = refl
+number_back OuterLengthWrong = refl
+number_back TooManyItems = refl
+number_back TagBroken = refl
+number_back LengthBroken = refl
+number_back FirstNotTimeStamp = refl
+number_back LastNotChecksum = refl
+number_back ChecksumDiffers = refl
+number_back LengthNotAllowed = refl
+number_back KnownTagTwice = refl
+number_back CodeNotAllowed = refl
+number_back VersionMissing = refl
+number_back RowCountTooLarge = refl
+number_back RowBad = refl
+number_back OutputTooShort = refl
+number_back NoScale = refl
+number_back NotANumber = refl
+number_back ValueOutOfRange = refl
+number_back WordsDisagree = refl
 
-pub number-apart : (r s : Reason) → number r ≡ number s → r ≡ s
-number-apart r s e = sym (number-back r) ∙ ap numbered e ∙ number-back s
+pub number_apart : (r s : Reason) → number r ≡ number s → r ≡ s
+number_apart r s e = sym (number_back r) ∙ ap numbered e ∙ number_back s
 
-pub refusal-apart : {A : Type 0} (a b : Refusal) → ◌≡◌ {A = Answer A} (refusal a) (refusal b) → a ≡ b
-refusal-apart a b e =
+pub refusal_apart : {A : Type 0} (a b : Refusal) → ◌≡◌ {A = Answer A} (refusal a) (refusal b) → a ≡ b
+refusal_apart a b e =
     let n : number a.reason ≡ number b.reason = cc in
-    let r : a.reason ≡ b.reason = number-apart a.reason b.reason n in
+    let r : a.reason ≡ b.reason = number_apart a.reason b.reason n in
     let p : a.place ≡ b.place = cc in
     let t : a.tag ≡ b.tag = cc in
     λ i. record { reason = r i; place = p i; tag = t i }
@@ -65,8 +65,8 @@ module _ {A W : Type 0} (make : A → W) (refuse : Refusal → W) where
   made (given a) = make a
   made (refused n p t) = refuse (record { reason = numbered n; place = p; tag = t })
 
-  pub refuse-made : (r : Refusal) → made (refusal r) ≡ refuse r
-  refuse-made r = ap (λ n. refuse (record { reason = n; place = r.place; tag = r.tag })) (number-back r.reason)
+  pub refuse_made : (r : Refusal) → made (refusal r) ≡ refuse r
+  refuse_made r = ap (λ n. refuse (record { reason = n; place = r.place; tag = r.tag })) (number_back r.reason)
 
-  pub told-apart : (said : W → Answer A) → ((w : W) → made (said w) ≡ w) → (a b : W) → said a ≡ said b → a ≡ b
-  told-apart said back a b e = sym (back a) ∙ (ap made e ∙ back b)
+  pub told_apart : (said : W → Answer A) → ((w : W) → made (said w) ≡ w) → (a b : W) → said a ≡ said b → a ≡ b
+  told_apart said back a b e = sym (back a) ∙ (ap made e ∙ back b)

@@ -7,6 +7,6 @@ use borrow.Fn.Kinds.{Dens, res_t, ended_of}
 use Rattle.refusal.proofs.number_of.Kinds as kinds
 use Rattle.refusal.proofs.number_of.Reads as reads
 
-pub number-of-determined : (κs : Lfts 0) (a : Dens κs kinds.ps) (z z' : (res_t kinds.r κs).Denot) (e e' : AtExit (ended_of 0 kinds.ps kinds.r) κs)
+pub number_of_determined : (κs : Lfts 0) (a : Dens κs kinds.ps) (z z' : (res_t kinds.r κs).Denot) (e e' : AtExit (ended_of 0 kinds.ps kinds.r) κs)
     → reads.Post κs a z e → reads.Post κs a z' e' → z ≡ z'
-number-of-determined κs a z z' e e' p q = p ∙ sym q
+number_of_determined κs a z z' e e' p q = p ∙ sym q

@@ -8,72 +8,72 @@ use lib.ListN.{length, take}
 use lib.Seq.{take_at}
 use borrow.Rule.Slice.PartMut.{mid_of, put_mid}
 use Rattle.base.specs.Putting.{Puts, Room, Wrote}
-use Rattle.base.proofs.Putting.{puts-as, room-first}
+use Rattle.base.proofs.Putting.{puts_as, room_first}
 use Rattle.number.specs.Stored.{Bytes, bytes_of}
-use Rattle.ber.specs.Written.{lengthBytes}
-use Rattle.ber.proofs.Putting.{number-wrote}
-use Rattle.checksum.specs.Sum.{checksumOf}
+use Rattle.ber.specs.Written.{length_bytes}
+use Rattle.ber.proofs.Putting.{number_wrote}
+use Rattle.checksum.specs.Sum.{checksum_of}
 use Rattle.packet.specs.Pieces.{Piece}
 use Rattle.packet.specs.Structure.{key, structure}
-use Rattle.packet.specs.Encode.{piecesIn, canonical}
+use Rattle.packet.specs.Encode.{pieces_in, canonical}
 use Rattle.packet.specs.Allowed.{Formed}
-use Rattle.laws.proofs.Structure.{length-key, structure-formed, formed-length}
-use Rattle.writer.proofs.Whole.{head-put, head-room, items-room, sum_room, packet-put}
+use Rattle.laws.proofs.Structure.{length_key, structure_formed, formed_length}
+use Rattle.writer.proofs.Whole.{head_put, head_room, items_room, sum_room, packet_put}
 use Rattle.packet.specs.Structure.{ItemsFrom}
-use Rattle.relay.specs.code.Sends.{itemsFor, Sendable}
-use Rattle.relay.proofs.Items.{canonical-size}
+use Rattle.relay.specs.code.Sends.{items_for, Sendable}
+use Rattle.relay.proofs.Items.{canonical_size}
 
 module _ {p : List ℕ} {from : ℕ} (f : ItemsFrom p from) (by : Bytes p) where
   formed : Formed p f.items
-  formed = structure-formed p f.items by f.found
+  formed = structure_formed p f.items by f.found
 
-  pub key-inside : 16 ≤ length p
-  key-inside = omega (arith, formed-length p f.items formed)
+  pub key_inside : 16 ≤ length p
+  key_inside = omega (arith, formed_length p f.items formed)
 
-  key-first : take 16 p ≡ key
-  key-first = ap (take 16) formed.whole ∙ take_at key (formed.form ++ formed.body) 16 length-key
+  key_first : take 16 p ≡ key
+  key_first = ap (take 16) formed.whole ∙ take_at key (formed.form ++ formed.body) 16 length_key
 
-  key-put : {o : List ℕ} {n : ℕ} {o₁ : List ℕ} → Room o 0 key → Puts o 0 (take 16 p) n o₁ → Wrote o 0 key 16 o₁
-  key-put {n = n} h k =
-      let w = puts-as key-first h k in
-      let e : 0 + n ≡ 16 = omega (arith, w.after, length-key) in
+  key_put : {o : List ℕ} {n : ℕ} {o₁ : List ℕ} → Room o 0 key → Puts o 0 (take 16 p) n o₁ → Wrote o 0 key 16 o₁
+  key_put {n = n} h k =
+      let w = puts_as key_first h k in
+      let e : 0 + n ≡ 16 = omega (arith, w.after, length_key) in
       rw e at w
 
 -- the two bytes at the end
-two-put : (o : List ℕ) (at end x : ℕ) (filled : List ℕ) → end ≡ at + 2 → at + 2 ≤ length o → filled ≡ bytes_of (length (mid_of at (end - at) o)) x
+two_put : (o : List ℕ) (at end x : ℕ) (filled : List ℕ) → end ≡ at + 2 → at + 2 ≤ length o → filled ≡ bytes_of (length (mid_of at (end - at) o)) x
     → Wrote o at (bytes_of 2 x) (at + 2) (put_mid at (end - at) o filled)
-two-put o at end x filled e h g = let k : end - at ≡ at + 2 - at = omega arith in rw k (number-wrote o at 2 x h filled (rw k at g))
+two_put o at end x filled e h g = let k : end - at ≡ at + 2 - at = omega arith in rw k (number_wrote o at 2 x h filled (rw k at g))
 
 module _ {p : List ℕ} {from size items room : ℕ} (s : Sendable p from size items room) where
-  pub sizes : size ≡ 16 + length (lengthBytes items) + items
-  sizes = s.whole ∙ rw s.part (canonical-size p)
+  pub sizes : size ≡ 16 + length (length_bytes items) + items
+  sizes = s.whole ∙ rw s.part (canonical_size p)
 
   abbrev cs : List Piece
-  cs = piecesIn (structure p)
+  cs = pieces_in (structure p)
 
   module _ (by : Bytes p) {o : List ℕ} (lent : length o ≡ room) {n : ℕ} {o₁ : List ℕ} (k : Puts o 0 (take 16 p) n o₁)
-      {m : ℕ} {o₂ : List ℕ} (q : Puts o₁ 16 (lengthBytes items) m o₂) where
+      {m : ℕ} {o₂ : List ℕ} (q : Puts o₁ 16 (length_bytes items) m o₂) where
     fits : size ≤ length o
     fits = rw lent s.fits
 
-    pub head : Wrote o 0 (key ++ lengthBytes items) (16 + m) o₂
+    pub head : Wrote o 0 (key ++ length_bytes items) (16 + m) o₂
     unfolding canonical
     head =
-        let h = head-room cs s.whole s.part fits in
-        head-put h (key-put s.walks by (room-first (lengthBytes items) h) k) q
+        let h = head_room cs s.whole s.part fits in
+        head_put h (key_put s.walks by (room_first (length_bytes items) h) k) q
 
-    pub items-fit : Room o₂ (16 + m) (itemsFor p)
+    pub items_fit : Room o₂ (16 + m) (items_for p)
     unfolding canonical
-    items-fit = items-room cs s.whole s.part fits head
+    items_fit = items_room cs s.whole s.part fits head
 
-    module _ {end : ℕ} {o₃ : List ℕ} (r : Wrote o₂ (16 + m) (itemsFor p) end o₃) where
+    module _ {end : ℕ} {o₃ : List ℕ} (r : Wrote o₂ (16 + m) (items_for p) end o₃) where
       pub sum_fits : size - 2 + 2 ≤ length o₃
       unfolding canonical
       sum_fits = sum_room cs s.whole s.part fits head r
 
-      pub anew-put : {sum : ℕ} {filled : List ℕ} → sum ≡ checksumOf (take (size - 2) o₃)
+      pub anew_put : {sum : ℕ} {filled : List ℕ} → sum ≡ checksum_of (take (size - 2) o₃)
           → filled ≡ bytes_of (length (mid_of (size - 2) (size - (size - 2)) o₃)) sum
           → Wrote o 0 (canonical p) size (put_mid (size - 2) (size - (size - 2)) o₃ filled)
       unfolding canonical
-      anew-put {sum} {filled} c g =
-          packet-put cs s.whole s.part fits head r c (two-put o₃ (size - 2) size sum filled (omega (arith, sizes)) sum_fits g)
+      anew_put {sum} {filled} c g =
+          packet_put cs s.whole s.part fits head r c (two_put o₃ (size - 2) size sum filled (omega (arith, sizes)) sum_fits g)

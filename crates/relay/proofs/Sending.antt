@@ -7,10 +7,10 @@ use mathlib.Core.List.{List}
 use lib.ListN.{length, drop, length-append}
 use lib.Dec.{ltb, leb}
 use borrow.Author.Tests.{le-leb}
-use Rattle.base.proofs.Cases.{byBool}
+use Rattle.base.proofs.Cases.{by_bool}
 use Rattle.base.proofs.Every.{both_true}
 use Rattle.refusal.specs.Answer.{given, refused, map}
-use Rattle.refusal.proofs.Answers.{passed, map-given, map-refused}
+use Rattle.refusal.proofs.Answers.{passed, map_given, map_refused}
 use Rattle.number.specs.Stored.{Bytes}
 use Rattle.tagset.specs.Sets.{holds}
 use Rattle.tagset.specs.declared.TagSet.{TagSet}
@@ -18,36 +18,36 @@ use Rattle.knowing.specs.Good.{good}
 use Rattle.packet.specs.Pieces.{Item, pieces, walk}
 use Rattle.packet.specs.Judge.{Knowing}
 use Rattle.packet.specs.Verdict.{body_of, verdict, received, checked}
-use Rattle.packet.specs.Encode.{longerOf, encode, canonical}
+use Rattle.packet.specs.Encode.{longer_of, encode, canonical}
 use Rattle.packet.specs.Allowed.{Formed}
-use Rattle.packet.specs.Rows.{rowsIn, rows_of, table_of, pieces_of, lentVerdict, Filled, filledBy, readAnswer, readTable}
+use Rattle.packet.specs.Rows.{rows_in, rows_of, table_of, pieces_of, lent_verdict, Filled, filled_by, read_answer, read_table}
 use Rattle.packet.specs.declared.Accepted.{Accepted}
 use Rattle.packet.proofs.Accepting.{accepting}
 use Rattle.laws.proofs.Accepted.{Accepts, accepts}
-use Rattle.laws.proofs.Structure.{structure-formed}
+use Rattle.laws.proofs.Structure.{structure_formed}
 use Rattle.laws.proofs.Written.{Sendable}
-use Rattle.laws.proofs.Forward.{sendable, canonical-is}
-use Rattle.laws.proofs.Rows.{rows-good}
-use Rattle.laws.proofs.Sent.{rows-pieces}
-use Rattle.laws.proofs.Tables.{HasRead, has-read, read_count, rows-in-table}
-use Rattle.reader.proofs.Laws.{words-length}
+use Rattle.laws.proofs.Forward.{sendable, canonical_is}
+use Rattle.laws.proofs.Rows.{rows_good}
+use Rattle.laws.proofs.Sent.{rows_pieces}
+use Rattle.laws.proofs.Tables.{HasRead, has_read, read_count, rows_in_table}
+use Rattle.reader.proofs.Laws.{words_length}
 use Rattle.outgoing.specs.Outgoing.{outgoing}
-use Rattle.outgoing.proofs.Given.{Sent, Outgoes, outgoes-given}
-use Rattle.writer.specs.Writes.{written, writeAnswer, writeOutput}
-use Rattle.relay.specs.Forwards.{Forwards, ownTable, forwardAnswer, forwardOutput, forwardSaid}
+use Rattle.outgoing.proofs.Given.{Sent, Outgoes, outgoes_given}
+use Rattle.writer.specs.Writes.{written, write_answer, write_output}
+use Rattle.relay.specs.Forwards.{Forwards, own_table, forward_answer, forward_output, forward_said}
 use Rattle.packet.specs.Structure.{ItemsFrom}
-use Rattle.relay.specs.code.Sends.{LongerBy, sentAnswer, sentOutput, Sends}
+use Rattle.relay.specs.code.Sends.{LongerBy, sent_answer, sent_output, Sends}
 use Rattle.relay.specs.declared.Forwarding.{Forwarding}
-use Rattle.relay.proofs.Items.{all-longer}
+use Rattle.relay.proofs.Items.{all_longer}
 
-table-long : (K : Knowing) (is : List Item) (t : List ℕ) → 4 * length is ≤ length (table_of K is t)
+table_long : (K : Knowing) (is : List Item) (t : List ℕ) → 4 * length is ≤ length (table_of K is t)
 unfolding table_of
-table-long K is t = rw length-append (omega (arith, words-length K is))
+table_long K is t = rw length-append (omega (arith, words_length K is))
 
 -- pieces that can be sent, and are without fault
-all-sent : (K : Knowing) (p : List ℕ) (is : List Item) → Bytes p → Accepts K p is → Sent K (pieces is)
-all-sent K p is by a =
-    let s : Sendable (pieces is) = sendable p is by (structure-formed p is by a.found) in
+all_sent : (K : Knowing) (p : List ℕ) (is : List Item) → Bytes p → Accepts K p is → Sent K (pieces is)
+all_sent K p is by a =
+    let s : Sendable (pieces is) = sendable p is by (structure_formed p is by a.found) in
     record {
       small = s.fits;
       start = record { first = s.first; others = s.others; parts = s.begins; time = s.time };
@@ -62,69 +62,69 @@ all-sent K p is by a =
     }
 
 -- a table that a reader made of a packet
-module _ (K : TagSet) (p t : List ℕ) (done : Filled) (by : Bytes p) (e : readAnswer K p t ≡ given done) where
+module _ (K : TagSet) (p t : List ℕ) (done : Filled) (by : Bytes p) (e : read_answer K p t ≡ given done) where
   abbrev n : ℕ
   n = done.count
 
   was_read : HasRead K p t done
-  was_read = has-read K p t done e
+  was_read = has_read K p t done e
 
-  its-rows : rowsIn 0 n (readTable K p t) ≡ rows_of (holds K) was_read.items
-  its-rows = ap (rowsIn 0 n) was_read.table ∙ rows-in-table (holds K) was_read.items t n (read_count was_read)
+  its_rows : rows_in 0 n (read_table K p t) ≡ rows_of (holds K) was_read.items
+  its_rows = ap (rows_in 0 n) was_read.table ∙ rows_in_table (holds K) was_read.items t n (read_count was_read)
 
-  its-pieces : pieces_of (holds K) p (rowsIn 0 n (readTable K p t)) ≡ pieces was_read.items
-  its-pieces = ap (pieces_of (holds K) p) its-rows ∙ rows-pieces (holds K) p was_read.items by was_read.accepted
+  its_pieces : pieces_of (holds K) p (rows_in 0 n (read_table K p t)) ≡ pieces was_read.items
+  its_pieces = ap (pieces_of (holds K) p) its_rows ∙ rows_pieces (holds K) p was_read.items by was_read.accepted
 
-  goes-out : Outgoes K n (readTable K p t) p
-  goes-out =
+  goes_out : Outgoes K n (read_table K p t) p
+  goes_out =
       let a : Accepts (holds K) p was_read.items = accepts (holds K) p was_read.items was_read.accepted in
-      let f : Formed p was_read.items = structure-formed p was_read.items by a.found in
-      let long : 4 * n ≤ length (readTable K p t) = rw was_read.table (omega (arith, read_count was_read, table-long (holds K) was_read.items t)) in
+      let f : Formed p was_read.items = structure_formed p was_read.items by a.found in
+      let long : 4 * n ≤ length (read_table K p t) = rw was_read.table (omega (arith, read_count was_read, table_long (holds K) was_read.items t)) in
       let few : n ≤ 128 = omega (arith, f.few, read_count was_read) in
       record {
         knows = was_read.right;
-        counted = both_true (leb n 128) (leb (4 * n) (length (readTable K p t))) (le-leb n 128 few) (le-leb _ _ long);
-        rows = rw its-rows (rows-good (holds K) p was_read.items by was_read.accepted);
-        pieces = rw its-pieces (all-sent (holds K) p was_read.items by a);
+        counted = both_true (leb n 128) (leb (4 * n) (length (read_table K p t))) (le-leb n 128 few) (le-leb _ _ long);
+        rows = rw its_rows (rows_good (holds K) p was_read.items by was_read.accepted);
+        pieces = rw its_pieces (all_sent (holds K) p was_read.items by a);
       }
 
-  goes-as : outgoing K n (readTable K p t) p ≡ given (pieces was_read.items)
-  goes-as = outgoes-given K n (readTable K p t) p goes-out ∙ ap given its-pieces
+  goes_as : outgoing K n (read_table K p t) p ≡ given (pieces was_read.items)
+  goes_as = outgoes_given K n (read_table K p t) p goes_out ∙ ap given its_pieces
 
-  canonical-of : canonical p ≡ encode (pieces was_read.items)
-  canonical-of = canonical-is p was_read.items by (accepts (holds K) p was_read.items was_read.accepted).found
+  canonical_of : canonical p ≡ encode (pieces was_read.items)
+  canonical_of = canonical_is p was_read.items by (accepts (holds K) p was_read.items was_read.accepted).found
 
   -- written with the packet as buffer: sent where there is room
-  pub write-sends : (o : List ℕ) → (writeAnswer K done.count (readTable K p t) p o ≡ sentAnswer (canonical p) o)
-      × (writeOutput K done.count (readTable K p t) p o ≡ sentOutput (canonical p) o)
-  unfolding writeAnswer writeOutput written
-  write-sends o =
-      rw (goes-as, canonical-of)
-      (byBool (ltb (length o) (length (encode (pieces was_read.items)))) (λ b. rw b (refl, refl)) (λ b. rw b (refl, refl)))
+  pub write_sends : (o : List ℕ) → (write_answer K done.count (read_table K p t) p o ≡ sent_answer (canonical p) o)
+      × (write_output K done.count (read_table K p t) p o ≡ sent_output (canonical p) o)
+  unfolding write_answer write_output written
+  write_sends o =
+      rw (goes_as, canonical_of)
+      (by_bool (ltb (length o) (length (encode (pieces was_read.items)))) (λ b. rw b (refl, refl)) (λ b. rw b (refl, refl)))
 
 -- the relay's table is its own: it answers as the check does
 module _ (K : TagSet) (p : List ℕ) where
-  own-received : lentVerdict K p ownTable ≡ received K p
-  unfolding lentVerdict received
-  own-received = refl
+  own_received : lent_verdict K p own_table ≡ received K p
+  unfolding lent_verdict received
+  own_received = refl
 
-  pub forward-refused : (o : List ℕ) (n a u : ℕ) → checked K p ≡ refused n a u → (r : Forwarding) → forwardSaid r ≡ refused n a u → Forwards K p o r o
-  unfolding checked readAnswer forwardAnswer forwardOutput
-  forward-refused o n a u e r s =
-      let f : readAnswer K p ownTable ≡ refused n a u = ap (map (filledBy (holds K))) (own-received ∙ map-refused (body_of (holds K)) (received K p) n a u e) in
+  pub forward_refused : (o : List ℕ) (n a u : ℕ) → checked K p ≡ refused n a u → (r : Forwarding) → forward_said r ≡ refused n a u → Forwards K p o r o
+  unfolding checked read_answer forward_answer forward_output
+  forward_refused o n a u e r s =
+      let f : read_answer K p own_table ≡ refused n a u = ap (map (filled_by (holds K))) (own_received ∙ map_refused (body_of (holds K)) (received K p) n a u e) in
       record { answer = s ∙ sym (rw f); output = sym (rw f) }
 
   module _ (by : Bytes p) where
-    pub forward-is : (o : List ℕ) (done : Filled) → readAnswer K p ownTable ≡ given done → (forwardAnswer K p o ≡ sentAnswer (canonical p) o)
-        × (forwardOutput K p o ≡ sentOutput (canonical p) o)
-    unfolding forwardAnswer forwardOutput
-    forward-is o done e = rw e (write-sends K p ownTable done by e o)
+    pub forward_is : (o : List ℕ) (done : Filled) → read_answer K p own_table ≡ given done → (forward_answer K p o ≡ sent_answer (canonical p) o)
+        × (forward_output K p o ≡ sent_output (canonical p) o)
+    unfolding forward_answer forward_output
+    forward_is o done e = rw e (write_sends K p own_table done by e o)
 
     -- a packet that the check accepts
     module _ (b : Accepted) (e : checked K p ≡ given b) where
       taken : (is : List Item) × (received K p ≡ given is) × (body_of (holds K) is ≡ b)
       unfolding checked
-      taken = map-given (body_of (holds K)) (received K p) e
+      taken = map_given (body_of (holds K)) (received K p) e
 
       items-from : ItemsFrom p b.from
       unfolding received
@@ -139,11 +139,11 @@ module _ (K : TagSet) (p : List ℕ) where
       pub longer-by : LongerBy p b.from b.longer
       unfolding items-from
       longer-by =
-          let e : longerOf taken.0 ≡ b.longer = ap (λ (x : Accepted). x.longer) taken.2 in
-          record { walks = items-from; sizes = rw (← e) (all-longer p b.from items-from by) }
+          let e : longer_of taken.0 ≡ b.longer = ap (λ (x : Accepted). x.longer) taken.2 in
+          record { walks = items-from; sizes = rw (← e) (all_longer p b.from items-from by) }
 
-      pub forward-sent : (o : List ℕ) (r : Forwarding) (o' : List ℕ) → Sends (canonical p) o r o' → Forwards K p o r o'
-      unfolding readAnswer
-      forward-sent o r o' s =
-          let f = forward-is o (filledBy (holds K) taken.0) (ap (map (filledBy (holds K))) (own-received ∙ taken.1)) in
+      pub forward_sent : (o : List ℕ) (r : Forwarding) (o' : List ℕ) → Sends (canonical p) o r o' → Forwards K p o r o'
+      unfolding read_answer
+      forward_sent o r o' s =
+          let f = forward_is o (filled_by (holds K) taken.0) (ap (map (filled_by (holds K))) (own_received ∙ taken.1)) in
           record { answer = s.answer ∙ sym f.0; output = s.output ∙ sym f.1 }

@@ -2,11 +2,11 @@
 // Whoever reads what was sent on reads what the original says; a refusal leaves the output.
 ghost use Rattle.std.specs.Prelude.{◌+◌, ◌≤◌, length};
 ghost use Rattle.base.specs.Putting.{Room, Wrote};
-ghost use Rattle.packet.specs.code.Headers.{itemBy};
-ghost use Rattle.packet.specs.Encode.{itemBytes, canonical};
+ghost use Rattle.packet.specs.code.Headers.{item_by};
+ghost use Rattle.packet.specs.Encode.{item_bytes, canonical};
 ghost use Rattle.relay.specs.Forwards.{Forwards};
 ghost use Rattle.packet.specs.Structure.{ItemsFrom};
-ghost use Rattle.relay.specs.code.Sends.{itemsFor, LongerBy, Sendable, Sends};
+ghost use Rattle.relay.specs.code.Sends.{items_for, LongerBy, Sendable, Sends};
 
 use packet::{Checked, Header, Step};
 use refusal::{Reason, Refusal};
@@ -21,8 +21,8 @@ pub enum Forwarding {
 
 // An item, its value as it stands in the packet, and the place after it.
 fn put_item(out: &mut [u8], at: usize, packet: &[u8], item: Header) -> usize
-    requires { (item.place + item.size ≤ length packet.now) × Room out.old at (itemBytes (itemBy packet.now item).piece) }
-    ensures { Wrote out.old at (itemBytes (itemBy packet.now item).piece) result out.new }
+    requires { (item.place + item.size ≤ length packet.now) × Room out.old at (item_bytes (item_by packet.now item).piece) }
+    ensures { Wrote out.old at (item_bytes (item_by packet.now item).piece) result out.new }
 {
     let size = item.size;
     let from = item.place;
@@ -35,8 +35,8 @@ fn put_item(out: &mut [u8], at: usize, packet: &[u8], item: Header) -> usize
 
 // All items, one after another, and the place after them.
 fn put_items(out: &mut [u8], start: usize, packet: &[u8], from: usize) -> usize
-    requires { ItemsFrom packet.now from × Room out.old start (itemsFor packet.now) }
-    ensures { Wrote out.old start (itemsFor packet.now) result out.new }
+    requires { ItemsFrom packet.now from × Room out.old start (items_for packet.now) }
+    ensures { Wrote out.old start (items_for packet.now) result out.new }
 {
     let mut at = start;
     let mut here = from;

@@ -7,89 +7,89 @@ use mathlib.Core.Bool.{Bool, true, cond, ◌&&◌}
 use mathlib.Core.List.{List}
 use lib.Dec.{leb, eqb}
 use borrow.Author.Tests.{leb-true, eq-eqb, ne_eqb}
-use Rattle.base.proofs.Cases.{byBool, byEq, clash}
+use Rattle.base.proofs.Cases.{by_bool, by_eq, clash}
 use Rattle.base.proofs.Every.{both_left, both_right}
-use Rattle.refusal.proofs.Laws.{refusal-apart}
-use Rattle.catalogue.specs.code.Column.{shapeColumn, shapeIn}
+use Rattle.refusal.proofs.Laws.{refusal_apart}
+use Rattle.catalogue.specs.code.Column.{shape_column, shape_in}
 use Rattle.catalogue.specs.declared.Shape.{Shape}
 use Rattle.catalogue.specs.declared.Shape.TheVariants.{Text, Number, Absent}
-use Rattle.catalogue.proofs.Columns.{shape-in-column}
+use Rattle.catalogue.proofs.Columns.{shape_in_column}
 use Rattle.catalogue.specs.Shapes.{is_empty}
-use Rattle.rows.specs.Meaning.{reading, mark, text, carried, withdrawn, shapeFor, valueAs, seenAs, markCode, kind_of, kindFor, code_of}
-use Rattle.rows.specs.Meaning.{is_number, saidBy}
-use Rattle.rows.specs.Taken.{countGood, takenSaid}
+use Rattle.rows.specs.Meaning.{reading, mark, text, carried, withdrawn, shape_for, value_as, seen_as, mark_code, kind_of, kind_for, code_of}
+use Rattle.rows.specs.Meaning.{is_number, said_by}
+use Rattle.rows.specs.Taken.{count_good, taken_said}
 use Rattle.rows.specs.declared.Taken.{Taken}
 use Rattle.rows.specs.declared.Taken.TheVariants.{Is, Refused}
 
-pub count-good : (count lent : ℕ) → countGood count lent ≡ true → (count ≤ 128) × (4 * count ≤ lent)
+pub count-good : (count lent : ℕ) → count_good count lent ≡ true → (count ≤ 128) × (4 * count ≤ lent)
 count-good count lent e = (leb-true _ _ (both_left (leb count 128) _ e), leb-true _ _ (both_right (leb count 128) _ e))
 
-pub shape-by-column : (K : ℕ → Bool) (column : List ℕ) (t : ℕ) → column ≡ shapeColumn → cond (K t) (shapeIn column t) Shape.Absent ≡ shapeFor K t
-unfolding shapeFor
-shape-by-column K column t e = rw (e, shape-in-column t)
+pub shape_by_column : (K : ℕ → Bool) (column : List ℕ) (t : ℕ) → column ≡ shape_column → cond (K t) (shape_in column t) Shape.Absent ≡ shape_for K t
+unfolding shape_for
+shape_by_column K column t e = rw (e, shape_in_column t)
 
-pub taken-apart : (a b : Taken) → takenSaid a ≡ takenSaid b → a ≡ b
-taken-apart (Is r) (Is s) e = cc
-taken-apart (Is r) (Refused s) e = let z : ◌≡◌ {A = ℕ} 0 1 = cc in absurd (omega arith)
-taken-apart (Refused r) (Is s) e = let z : ◌≡◌ {A = ℕ} 0 1 = cc in absurd (omega arith)
-taken-apart (Refused r) (Refused s) e = ap Refused (refusal-apart r s e)
+pub taken_apart : (a b : Taken) → taken_said a ≡ taken_said b → a ≡ b
+taken_apart (Is r) (Is s) e = cc
+taken_apart (Is r) (Refused s) e = let z : ◌≡◌ {A = ℕ} 0 1 = cc in absurd (omega arith)
+taken_apart (Refused r) (Is s) e = let z : ◌≡◌ {A = ℕ} 0 1 = cc in absurd (omega arith)
+taken_apart (Refused r) (Refused s) e = ap Refused (refusal_apart r s e)
 
 -- what a row says, by the number of its kind
 module _ {A : Type 0} (kind code size : ℕ) (a : A) where
-  pub says-reading : kind ≡ 1 → saidBy kind code size a ≡ reading code size
-  says-reading e = rw (eq-eqb kind 1 e)
+  pub says_reading : kind ≡ 1 → said_by kind code size a ≡ reading code size
+  says_reading e = rw (eq-eqb kind 1 e)
 
-  pub says-mark : (kind ≡ 1 → ⊥) → kind ≡ 2 → saidBy kind code size a ≡ mark code size
-  says-mark f e = rw (ne_eqb kind 1 f, eq-eqb kind 2 e)
+  pub says_mark : (kind ≡ 1 → ⊥) → kind ≡ 2 → said_by kind code size a ≡ mark code size
+  says_mark f e = rw (ne_eqb kind 1 f, eq-eqb kind 2 e)
 
-  pub says-text : (kind ≡ 1 → ⊥) → (kind ≡ 2 → ⊥) → kind ≡ 3 → saidBy kind code size a ≡ text a
-  says-text f g e = rw (ne_eqb kind 1 f, ne_eqb kind 2 g, eq-eqb kind 3 e)
+  pub says_text : (kind ≡ 1 → ⊥) → (kind ≡ 2 → ⊥) → kind ≡ 3 → said_by kind code size a ≡ text a
+  says_text f g e = rw (ne_eqb kind 1 f, ne_eqb kind 2 g, eq-eqb kind 3 e)
 
-  pub says-withdrawn : kind ≡ 5 → saidBy kind code size a ≡ withdrawn
-  says-withdrawn e = rw e
+  pub says_withdrawn : kind ≡ 5 → said_by kind code size a ≡ withdrawn
+  says_withdrawn e = rw e
 
-  pub says-carried : (kind ≡ 1 → ⊥) → (kind ≡ 2 → ⊥) → (kind ≡ 3 → ⊥) → (kind ≡ 5 → ⊥) → saidBy kind code size a ≡ carried a
-  says-carried f g h i = rw (ne_eqb kind 1 f, ne_eqb kind 2 g, ne_eqb kind 3 h, ne_eqb kind 5 i)
+  pub says_carried : (kind ≡ 1 → ⊥) → (kind ≡ 2 → ⊥) → (kind ≡ 3 → ⊥) → (kind ≡ 5 → ⊥) → said_by kind code size a ≡ carried a
+  says_carried f g h i = rw (ne_eqb kind 1 f, ne_eqb kind 2 g, ne_eqb kind 3 h, ne_eqb kind 5 i)
 
   -- a number that is no reading is a mark, and the other way round
-  pub number-mark : (kind ≡ 1 → ⊥) → eqb kind 2 ≡ is_number (saidBy kind code size a)
-  number-mark f =
-      byEq kind 2 (λ e. rw e)
-      (λ g. rw (ne_eqb kind 1 f, ne_eqb kind 2 g) (byBool (eqb kind 3)
+  pub number_mark : (kind ≡ 1 → ⊥) → eqb kind 2 ≡ is_number (said_by kind code size a)
+  number_mark f =
+      by_eq kind 2 (λ e. rw e)
+      (λ g. rw (ne_eqb kind 1 f, ne_eqb kind 2 g) (by_bool (eqb kind 3)
       (λ h. rw h)
-      (λ h. rw h (byBool (eqb kind 5) (λ i. rw i) (λ i. rw i)))))
+      (λ h. rw h (by_bool (eqb kind 5) (λ i. rw i) (λ i. rw i)))))
 
-  pub number-reading : is_number (saidBy kind code size a) ≡ true → (kind ≡ 2 → ⊥) → kind ≡ 1
-  number-reading n f =
-      byEq kind 1 (λ e. e)
-      (λ g. byEq kind 3
-      (λ e. clash (sym n ∙ ap is_number (says-text g f e)))
-      (λ h. byEq kind 5
-      (λ e. clash (sym n ∙ ap is_number (says-withdrawn e)))
-      (λ i. clash (sym n ∙ ap is_number (says-carried g f h i)))))
+  pub number_reading : is_number (said_by kind code size a) ≡ true → (kind ≡ 2 → ⊥) → kind ≡ 1
+  number_reading n f =
+      by_eq kind 1 (λ e. e)
+      (λ g. by_eq kind 3
+      (λ e. clash (sym n ∙ ap is_number (says_text g f e)))
+      (λ h. by_eq kind 5
+      (λ e. clash (sym n ∙ ap is_number (says_withdrawn e)))
+      (λ i. clash (sym n ∙ ap is_number (says_carried g f h i)))))
 
 -- the kind does not look at what text is; and what is seen is what kind and code say of it
 module _ {A : Type 0} (size : ℕ) (a : A) where
   -- of a value the kind does not look at the length either
-  pub kind-valued : {B : Type 0} (n : ℕ) (b : B) (s : Shape) (code : ℕ) → kind_of (valueAs s code size a) ≡ kind_of (valueAs s code n b)
-  kind-valued n b (Number least most marked) code = byBool (marked && eqb code (markCode most)) (λ e. rw e) (λ e. rw e)
-  kind-valued n b Text code = refl
-  kind-valued n b Absent code = refl
+  pub kind_valued : {B : Type 0} (n : ℕ) (b : B) (s : Shape) (code : ℕ) → kind_of (value_as s code size a) ≡ kind_of (value_as s code n b)
+  kind_valued n b (Number least most marked) code = by_bool (marked && eqb code (mark_code most)) (λ e. rw e) (λ e. rw e)
+  kind_valued n b Text code = refl
+  kind_valued n b Absent code = refl
 
-  pub kind-seen : (s : Shape) (code : ℕ) → kind_of (seenAs s code size a) ≡ kindFor s code size
-  kind-seen s code = byBool (is_empty s size) (λ e. rw e) (λ e. rw e (kind-valued size tt s code))
+  pub kind_seen : (s : Shape) (code : ℕ) → kind_of (seen_as s code size a) ≡ kind_for s code size
+  kind_seen s code = by_bool (is_empty s size) (λ e. rw e) (λ e. rw e (kind_valued size tt s code))
 
-  pub code-valued : (least most : ℕ) (marked : Bool) (code : ℕ) → code_of (valueAs (Number least most marked) code size a) ≡ code
-  code-valued least most marked code = byBool (marked && eqb code (markCode most)) (λ e. rw e) (λ e. rw e)
+  pub code_valued : (least most : ℕ) (marked : Bool) (code : ℕ) → code_of (value_as (Number least most marked) code size a) ≡ code
+  code_valued least most marked code = by_bool (marked && eqb code (mark_code most)) (λ e. rw e) (λ e. rw e)
 
   -- a number of some bytes has its code
-  pub code-seen : (least most : ℕ) (marked : Bool) (code : ℕ) → (size ≡ 0 → ⊥) → code_of (seenAs (Number least most marked) code size a) ≡ code
-  code-seen least most marked code some = rw (ne_eqb size 0 some) (code-valued least most marked code)
+  pub code_seen : (least most : ℕ) (marked : Bool) (code : ℕ) → (size ≡ 0 → ⊥) → code_of (seen_as (Number least most marked) code size a) ≡ code
+  code_seen least most marked code some = rw (ne_eqb size 0 some) (code_valued least most marked code)
 
-  valued-said : (s : Shape) (code : ℕ) → saidBy (kind_of (valueAs s code size a)) (code_of (valueAs s code size a)) size a ≡ valueAs s code size a
-  valued-said (Number least most marked) code = byBool (marked && eqb code (markCode most)) (λ e. rw e) (λ e. rw e)
-  valued-said Text code = refl
-  valued-said Absent code = refl
+  valued_said : (s : Shape) (code : ℕ) → said_by (kind_of (value_as s code size a)) (code_of (value_as s code size a)) size a ≡ value_as s code size a
+  valued_said (Number least most marked) code = by_bool (marked && eqb code (mark_code most)) (λ e. rw e) (λ e. rw e)
+  valued_said Text code = refl
+  valued_said Absent code = refl
 
-  pub seen-said : (s : Shape) (code : ℕ) → saidBy (kind_of (seenAs s code size a)) (code_of (seenAs s code size a)) size a ≡ seenAs s code size a
-  seen-said s code = byBool (is_empty s size) (λ e. rw e) (λ e. rw e (valued-said s code))
+  pub seen_said : (s : Shape) (code : ℕ) → said_by (kind_of (seen_as s code size a)) (code_of (seen_as s code size a)) size a ≡ seen_as s code size a
+  seen_said s code = by_bool (is_empty s size) (λ e. rw e) (λ e. rw e (valued_said s code))

@@ -2,7 +2,7 @@
 -- Assumes nothing.
 use mathlib.Core.Path.{sym, ◌∙◌}
 use Rattle.base.specs.Determined.{Answered}
-use Rattle.rows.proofs.Laws.{taken-apart}
+use Rattle.rows.proofs.Laws.{taken_apart}
 use Rattle.rows.proofs.kind_of.Kinds as kind-of-kinds
 use Rattle.rows.proofs.kind_of.Reads as kind-of-reads
 use Rattle.rows.proofs.shape_for.Kinds as shape-for-kinds
@@ -22,29 +22,29 @@ use Rattle.rows.proofs.content_of.Reads as content-of-reads
 use Rattle.rows.proofs.take_row.Kinds as take-row-kinds
 use Rattle.rows.proofs.take_row.Reads as take-row-reads
 
-pub kind-of-determined : Answered 0 kind-of-kinds.ps kind-of-kinds.r kind-of-reads.Post
-kind-of-determined κs a z z' e e' p q = p ∙ sym q
+pub kind_of_determined : Answered 0 kind-of-kinds.ps kind-of-kinds.r kind-of-reads.Post
+kind_of_determined κs a z z' e e' p q = p ∙ sym q
 
-pub shape-for-determined : Answered 1 shape-for-kinds.ps shape-for-kinds.r shape-for-reads.Post
-shape-for-determined κs a z z' e e' p q = p ∙ sym q
+pub shape_for_determined : Answered 1 shape-for-kinds.ps shape-for-kinds.r shape-for-reads.Post
+shape_for_determined κs a z z' e e' p q = p ∙ sym q
 
-pub is-good-row-determined : Answered 0 is-good-row-kinds.ps is-good-row-kinds.r is-good-row-reads.Post
-is-good-row-determined κs a z z' e e' p q = p ∙ sym q
+pub is_good_row_determined : Answered 0 is-good-row-kinds.ps is-good-row-kinds.r is-good-row-reads.Post
+is_good_row_determined κs a z z' e e' p q = p ∙ sym q
 
-pub is-good-value-row-determined : Answered 0 is-good-value-row-kinds.ps is-good-value-row-kinds.r is-good-value-row-reads.Post
-is-good-value-row-determined κs a z z' e e' p q = p ∙ sym q
+pub is_good_value_row_determined : Answered 0 is-good-value-row-kinds.ps is-good-value-row-kinds.r is-good-value-row-reads.Post
+is_good_value_row_determined κs a z z' e e' p q = p ∙ sym q
 
-pub is-good-count-determined : Answered 0 is-good-count-kinds.ps is-good-count-kinds.r is-good-count-reads.Post
-is-good-count-determined κs a z z' e e' p q = p ∙ sym q
+pub is_good_count_determined : Answered 0 is-good-count-kinds.ps is-good-count-kinds.r is-good-count-reads.Post
+is_good_count_determined κs a z z' e e' p q = p ∙ sym q
 
-pub tag-shown-determined : Answered 0 tag-shown-kinds.ps tag-shown-kinds.r tag-shown-reads.Post
-tag-shown-determined κs a z z' e e' p q = p ∙ sym q
+pub tag_shown_determined : Answered 0 tag-shown-kinds.ps tag-shown-kinds.r tag-shown-reads.Post
+tag_shown_determined κs a z z' e e' p q = p ∙ sym q
 
-pub row-at-determined : Answered 1 row-at-kinds.ps row-at-kinds.r row-at-reads.Post
-row-at-determined κs a z z' e e' p q = p ∙ sym q
+pub row_at_determined : Answered 1 row-at-kinds.ps row-at-kinds.r row-at-reads.Post
+row_at_determined κs a z z' e e' p q = p ∙ sym q
 
-pub content-of-determined : Answered 0 content-of-kinds.ps content-of-kinds.r content-of-reads.Post
-content-of-determined κs a z z' e e' p q = p ∙ sym q
+pub content_of_determined : Answered 0 content-of-kinds.ps content-of-kinds.r content-of-reads.Post
+content_of_determined κs a z z' e e' p q = p ∙ sym q
 
-pub take-row-determined : Answered 2 take-row-kinds.ps take-row-kinds.r take-row-reads.Post
-take-row-determined κs a z z' e e' p q = taken-apart z z' (p ∙ sym q)
+pub take_row_determined : Answered 2 take-row-kinds.ps take-row-kinds.r take-row-reads.Post
+take_row_determined κs a z z' e e' p q = taken_apart z z' (p ∙ sym q)

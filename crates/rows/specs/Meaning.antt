@@ -16,53 +16,53 @@ pub data Meaning (A : Type 0) : Type 0 where
   withdrawn : Meaning A
 
 -- the shape that a receiver gives a tag: it carries what it does not know
-unfoldable pub shapeFor : (ℕ → Bool) → ℕ → Shape
-shapeFor K t = cond (K t) (shape_of t) Absent
+unfoldable pub shape_for : (ℕ → Bool) → ℕ → Shape
+shape_for K t = cond (K t) (shape_of t) Absent
 
 -- "the lowest code (only the top bit set) is a mark"
-abbrev pub markCode : ℕ → ℕ
-markCode width = 2 ^ (8 * width - 1)
+abbrev pub mark_code : ℕ → ℕ
+mark_code width = 2 ^ (8 * width - 1)
 
 -- a value by the shape that a receiver gives the tag, the number that it is as a code, and how many bytes it has
-abbrev pub valueAs : {A : Type 0} → Shape → ℕ → ℕ → A → Meaning A
-valueAs (Number least most marked) code size a = cond (marked && eqb code (markCode most)) (mark code size) (reading code size)
-valueAs Text code size a = text a
-valueAs Absent code size a = carried a
+abbrev pub value_as : {A : Type 0} → Shape → ℕ → ℕ → A → Meaning A
+value_as (Number least most marked) code size a = cond (marked && eqb code (mark_code most)) (mark code size) (reading code size)
+value_as Text code size a = text a
+value_as Absent code size a = carried a
 
 -- the one rule: W-204, "a known item with length zero" is withdrawn, and "a receiver that doesn't know the tag carries an empty value"
-abbrev pub seenAs : {A : Type 0} → Shape → ℕ → ℕ → A → Meaning A
-seenAs shape code size a = cond (is_empty shape size) withdrawn (valueAs shape code size a)
+abbrev pub seen_as : {A : Type 0} → Shape → ℕ → ℕ → A → Meaning A
+seen_as shape code size a = cond (is_empty shape size) withdrawn (value_as shape code size a)
 
 -- of a value's bytes
-abbrev pub meaningOf : Shape → List ℕ → Meaning (List ℕ)
-meaningOf shape value = seenAs shape (value_of value) (length value) value
+abbrev pub meaning_of : Shape → List ℕ → Meaning (List ℕ)
+meaning_of shape value = seen_as shape (value_of value) (length value) value
 
 -- "kind (1 reading, 2 mark, 3 text, 4 carried)"; W-204: "a fifth kind, withdrawn"
-abbrev pub readingKind : ℕ
-readingKind = 1
+abbrev pub reading_kind : ℕ
+reading_kind = 1
 
-abbrev pub markKind : ℕ
-markKind = 2
+abbrev pub mark_kind : ℕ
+mark_kind = 2
 
-abbrev pub textKind : ℕ
-textKind = 3
+abbrev pub text_kind : ℕ
+text_kind = 3
 
-abbrev pub carriedKind : ℕ
-carriedKind = 4
+abbrev pub carried_kind : ℕ
+carried_kind = 4
 
-abbrev pub withdrawnKind : ℕ
-withdrawnKind = 5
+abbrev pub withdrawn_kind : ℕ
+withdrawn_kind = 5
 
 abbrev pub kind_of : {A : Type 0} → Meaning A → ℕ
-kind_of (reading code size) = readingKind
-kind_of (mark code size) = markKind
-kind_of (text a) = textKind
-kind_of (carried a) = carriedKind
-kind_of withdrawn = withdrawnKind
+kind_of (reading code size) = reading_kind
+kind_of (mark code size) = mark_kind
+kind_of (text a) = text_kind
+kind_of (carried a) = carried_kind
+kind_of withdrawn = withdrawn_kind
 
 -- the kind by the shape, the code and the length
-abbrev pub kindFor : Shape → ℕ → ℕ → ℕ
-kindFor shape code size = kind_of (seenAs {A = Unit {0}} shape code size tt)
+abbrev pub kind_for : Shape → ℕ → ℕ → ℕ
+kind_for shape code size = kind_of (seen_as {A = Unit {0}} shape code size tt)
 
 -- "the stored code as an unsigned number (0 for text and carried)"; W-204: "with code 0"
 abbrev pub code_of : {A : Type 0} → Meaning A → ℕ
@@ -81,18 +81,18 @@ is_number (carried a) = false
 is_number withdrawn = false
 
 -- the same with something else said of text and carried bytes
-abbrev pub mapMeaning : {A B : Type 0} → (A → B) → Meaning A → Meaning B
-mapMeaning f (reading code size) = reading code size
-mapMeaning f (mark code size) = mark code size
-mapMeaning f (text a) = text (f a)
-mapMeaning f (carried a) = carried (f a)
-mapMeaning f withdrawn = withdrawn
+abbrev pub map_meaning : {A B : Type 0} → (A → B) → Meaning A → Meaning B
+map_meaning f (reading code size) = reading code size
+map_meaning f (mark code size) = mark code size
+map_meaning f (text a) = text (f a)
+map_meaning f (carried a) = carried (f a)
+map_meaning f withdrawn = withdrawn
 
 -- what a kind's number, a code, a length and the rest say; any other number of a kind is no row that a reader makes
-abbrev pub saidBy : {A : Type 0} → ℕ → ℕ → ℕ → A → Meaning A
-saidBy kind code size a =
-    cond (eqb kind readingKind) (reading code size)
-    (cond (eqb kind markKind) (mark code size)
-    (cond (eqb kind textKind) (text a)
-    (cond (eqb kind withdrawnKind) withdrawn
+abbrev pub said_by : {A : Type 0} → ℕ → ℕ → ℕ → A → Meaning A
+said_by kind code size a =
+    cond (eqb kind reading_kind) (reading code size)
+    (cond (eqb kind mark_kind) (mark code size)
+    (cond (eqb kind text_kind) (text a)
+    (cond (eqb kind withdrawn_kind) withdrawn
     (carried a))))

@@ -4,10 +4,10 @@ use Rattle.refusal.specs.Answer.{Answer, given, refused, refusal}
 use Rattle.tagset.specs.Sets.{holds}
 use Rattle.tagset.specs.declared.TagSet.{TagSet}
 use Rattle.knowing.specs.Good.{good}
-use Rattle.catalogue.specs.Shapes.{shapeAllows, is_empty, isNeeded}
+use Rattle.catalogue.specs.Shapes.{shape_allows, is_empty, is_needed}
 use Rattle.catalogue.specs.declared.Shape.{Shape}
 use Rattle.catalogue.specs.declared.Shape.TheVariants.{Text, Number, Absent}
-use Rattle.rows.specs.Meaning.{Meaning, reading, mark, text, carried, withdrawn, withdrawnKind, shapeFor, valueAs, kind_of, kindFor, saidBy}
+use Rattle.rows.specs.Meaning.{Meaning, reading, mark, text, carried, withdrawn, withdrawn_kind, shape_for, value_as, kind_of, kind_for, said_by}
 use Rattle.rows.specs.declared.RowWords.{RowWords}
 use Rattle.rows.specs.declared.Content.{Content}
 use Rattle.rows.specs.declared.Content.TheVariants as content
@@ -17,70 +17,70 @@ use Rattle.rows.specs.declared.Taken.{Taken}
 use Rattle.rows.specs.declared.Taken.TheVariants.{Is, Refused}
 
 -- the fourth word: place × 65,536 + length
-abbrev pub partPlace : ℕ → ℕ
-partPlace w = w / 65536
+abbrev pub part_place : ℕ → ℕ
+part_place w = w / 65536
 
-abbrev pub partLength : ℕ → ℕ
-partLength w = w % 65536
+abbrev pub part_length : ℕ → ℕ
+part_length w = w % 65536
 
 -- where text or carried bytes stand
 abbrev pub part_of : ℕ → Part
-part_of part = record { place = partPlace part; length = partLength part }
+part_of part = record { place = part_place part; length = part_length part }
 
 -- what a row says that its item holds
-abbrev pub rowSays : RowWords → Meaning Part
-rowSays r = saidBy r.kind r.code (partLength r.part) (part_of r.part)
+abbrev pub row_says : RowWords → Meaning Part
+row_says r = said_by r.kind r.code (part_length r.part) (part_of r.part)
 
 -- "its tag is not 1 to 2,097,151"
-abbrev pub tagGood : ℕ → Bool
-tagGood t = ltb 0 t && ltb t 2097152
+abbrev pub tag_good : ℕ → Bool
+tag_good t = ltb 0 t && ltb t 2097152
 
 -- "it is text or carried and has a code other than 0 or a place plus length beyond the buffer"
-abbrev pub partGood : ℕ → ℕ → ℕ → Bool
-partGood room code part = eqb code 0 && leb (partPlace part + partLength part) room
+abbrev pub part_good : ℕ → ℕ → ℕ → Bool
+part_good room code part = eqb code 0 && leb (part_place part + part_length part) room
 
 -- "a number with another length than the catalogue's, a code too wide"; "tag 1's code is never a reason". Since W-202 the catalogue may
 -- allow more lengths than one, and a code is too wide for its own length.
-abbrev pub codeGood : ℕ → ℕ → ℕ → Bool
-codeGood tag width code = eqb tag 1 || ltb code (2 ^ (8 * width))
+abbrev pub code_good : ℕ → ℕ → ℕ → Bool
+code_good tag width code = eqb tag 1 || ltb code (2 ^ (8 * width))
 
-abbrev pub valueGood : Shape → ℕ → RowWords → Bool
-valueGood (Number least most marked) room r =
-    shapeAllows (Number least most marked) (partLength r.part) && codeGood r.tag (partLength r.part) r.code
-valueGood Text room r = partGood room r.code r.part
-valueGood Absent room r = partGood room r.code r.part
+abbrev pub value_good : Shape → ℕ → RowWords → Bool
+value_good (Number least most marked) room r =
+    shape_allows (Number least most marked) (part_length r.part) && code_good r.tag (part_length r.part) r.code
+value_good Text room r = part_good room r.code r.part
+value_good Absent room r = part_good room r.code r.part
 
 -- W-204: "for any known tag but 1, 2 and 65"; "The writer ignores a withdrawn row's place."; "a withdrawn row with a code or a length, or a text
 -- row of length 0, gets 17", since by its length another kind is its
-abbrev pub withdrawnGood : ℕ → ℕ → Bool
-withdrawnGood tag code = not (isNeeded tag) && eqb code 0
+abbrev pub withdrawn_good : ℕ → ℕ → Bool
+withdrawn_good tag code = not (is_needed tag) && eqb code 0
 
-abbrev pub withdrawnRowGood : RowWords → Bool
-withdrawnRowGood r = tagGood r.tag && (eqb r.kind withdrawnKind && withdrawnGood r.tag r.code)
+abbrev pub withdrawn_row_good : RowWords → Bool
+withdrawn_row_good r = tag_good r.tag && (eqb r.kind withdrawn_kind && withdrawn_good r.tag r.code)
 
-abbrev pub contentGood : Shape → ℕ → RowWords → Bool
-contentGood shape room r = cond (is_empty shape (partLength r.part)) (withdrawnGood r.tag r.code) (valueGood shape room r)
+abbrev pub content_good : Shape → ℕ → RowWords → Bool
+content_good shape room r = cond (is_empty shape (part_length r.part)) (withdrawn_good r.tag r.code) (value_good shape room r)
 
 -- a row that is not bad, for a receiver and a buffer of so many bytes: its kind is the one that this receiver gives the tag, the code and the length
-unfoldable pub rowGood : Shape → ℕ → RowWords → Bool
-rowGood shape room r = tagGood r.tag && (eqb r.kind (kindFor shape r.code (partLength r.part)) && contentGood shape room r)
+unfoldable pub row_good : Shape → ℕ → RowWords → Bool
+row_good shape room r = tag_good r.tag && (eqb r.kind (kind_for shape r.code (part_length r.part)) && content_good shape room r)
 
 -- the same of a row of some bytes, and of every row that is carried
-unfoldable pub valueRowGood : Shape → ℕ → RowWords → Bool
-valueRowGood shape room r =
-    tagGood r.tag && (eqb r.kind (kind_of (valueAs {A = Unit {0}} shape r.code (partLength r.part) tt)) && valueGood shape room r)
+unfoldable pub value_row_good : Shape → ℕ → RowWords → Bool
+value_row_good shape room r =
+    tag_good r.tag && (eqb r.kind (kind_of (value_as {A = Unit {0}} shape r.code (part_length r.part) tt)) && value_good shape room r)
 
 -- the same of a receiver and a buffer
 abbrev pub GoodRow : (ℕ → Bool) → List ℕ → RowWords → Type 0
-GoodRow K b r = rowGood (shapeFor K r.tag) (length b) r ≡ true
+GoodRow K b r = row_good (shape_for K r.tag) (length b) r ≡ true
 
 -- the tag that goes with 17: "its tag if 1 to 2,097,151, else 0"
-abbrev pub tagShown : ℕ → ℕ
-tagShown t = cond (tagGood t) t 0
+abbrev pub tag_shown : ℕ → ℕ
+tag_shown t = cond (tag_good t) t 0
 
 -- "row count over 128 or four times it over the words lent"
-abbrev pub countGood : ℕ → ℕ → Bool
-countGood count lent = leb count 128 && leb (4 * count) lent
+abbrev pub count_good : ℕ → ℕ → Bool
+count_good count lent = leb count 128 && leb (4 * count) lent
 
 -- the words of a row
 unfoldable pub row_at : List ℕ → ℕ → RowWords
@@ -93,26 +93,26 @@ row_at words n =
     }
 
 -- "its tag beside one of four kinds of content", five since W-204; W-202: a reading has its length too, since the conversions are told it
-abbrev pub contentOf : Meaning Part → Content
-contentOf (reading code size) = content.Reading code size
-contentOf (mark code size) = content.Mark
-contentOf (text part) = content.Text part
-contentOf (carried part) = content.Carried part
-contentOf withdrawn = content.Withdrawn
+abbrev pub content_of : Meaning Part → Content
+content_of (reading code size) = content.Reading code size
+content_of (mark code size) = content.Mark
+content_of (text part) = content.Text part
+content_of (carried part) = content.Carried part
+content_of withdrawn = content.Withdrawn
 
-abbrev pub rowTaken : Shape → ℕ → ℕ → RowWords → Answer Row
-rowTaken shape room n r =
-    cond (rowGood shape room r) (given (record { tag = r.tag; content = contentOf (rowSays r) })) (refused 17 n (tagShown r.tag))
+abbrev pub row_taken : Shape → ℕ → ℕ → RowWords → Answer Row
+row_taken shape room n r =
+    cond (row_good shape room r) (given (record { tag = r.tag; content = content_of (row_says r) })) (refused 17 n (tag_shown r.tag))
 
 -- the row numbered n of count rows: 1, 16, 17, or the row
-unfoldable pub rowTakenAt : TagSet → ℕ → ℕ → ℕ → List ℕ → Answer Row
-rowTakenAt K room count n words =
+unfoldable pub row_taken_at : TagSet → ℕ → ℕ → ℕ → List ℕ → Answer Row
+row_taken_at K room count n words =
     cond (good K)
-    (cond (countGood count (length words))
-    (cond (ltb n count) (rowTaken (shapeFor (holds K) (row_at words n).tag) room n (row_at words n)) (refused 17 n 0))
+    (cond (count_good count (length words))
+    (cond (ltb n count) (row_taken (shape_for (holds K) (row_at words n).tag) room n (row_at words n)) (refused 17 n 0))
     (refused 16 0 0))
     (refused 1 0 0)
 
-abbrev pub takenSaid : Taken → Answer Row
-takenSaid (Is r) = given r
-takenSaid (Refused r) = refusal r
+abbrev pub taken_said : Taken → Answer Row
+taken_said (Is r) = given r
+taken_said (Refused r) = refusal r

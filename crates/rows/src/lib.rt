@@ -4,11 +4,11 @@ ghost use Rattle.std.specs.Prelude.{◌≡◌, ◌+◌, ◌*◌, length, get_or,
 ghost use Rattle.refusal.specs.Numbers.{number};
 ghost use Rattle.refusal.specs.Answer.{refused as refusedBy};
 ghost use Rattle.tagset.specs.Sets.{holds};
-ghost use Rattle.catalogue.specs.code.Column.{shapeIn};
+ghost use Rattle.catalogue.specs.code.Column.{shape_in};
 ghost use Rattle.catalogue.specs.declared.Shape.{Shape};
-ghost use Rattle.rows.specs.Meaning.{kind_of, kindFor, valueAs, markCode, saidBy};
-ghost use Rattle.rows.specs.Taken.{rowGood, tagGood, withdrawnRowGood, valueRowGood, valueGood, partGood, codeGood, countGood, tagShown};
-ghost use Rattle.rows.specs.Taken.{row_at, part_of, contentOf, rowTaken, rowTakenAt, takenSaid};
+ghost use Rattle.rows.specs.Meaning.{kind_of, kind_for, value_as, mark_code, said_by};
+ghost use Rattle.rows.specs.Taken.{row_good, tag_good, withdrawn_row_good, value_row_good, value_good, part_good, code_good, count_good, tag_shown};
+ghost use Rattle.rows.specs.Taken.{row_at, part_of, content_of, row_taken, row_taken_at, taken_said};
 
 use catalogue::Shape;
 use refusal::{Reason, Refusal};
@@ -44,7 +44,7 @@ pub const WITHDRAWN: u64 = 5;
 
 // The kind of an item, by its shape, its code and how many bytes it has: W-204's is the first to be asked for.
 pub fn kind_of(shape: Shape, code: u64, size: usize) -> u64
-    ensures { result ≡ kindFor shape code size }
+    ensures { result ≡ kind_for shape code size }
 {
     if catalogue::is_empty(shape, size) {
         return WITHDRAWN;
@@ -53,7 +53,7 @@ pub fn kind_of(shape: Shape, code: u64, size: usize) -> u64
 }
 
 fn kind_of_value(shape: Shape, code: u64) -> u64
-    ensures { result ≡ kind_of (valueAs {A = Unit {0}} shape code 0 tt) }
+    ensures { result ≡ kind_of (value_as {A = Unit {0}} shape code 0 tt) }
 {
     match shape {
         Shape::Text => TEXT,
@@ -75,7 +75,7 @@ fn kind_of_value(shape: Shape, code: u64) -> u64
 
 // Whether only the top bit of a code of so many bytes is set.
 fn is_mark(width: usize, code: u64) -> bool
-    ensures { result ≡ eqb code (markCode width) }
+    ensures { result ≡ eqb code (mark_code width) }
 {
     if width == 0 {
         return code == 1;
@@ -88,7 +88,7 @@ fn is_mark(width: usize, code: u64) -> bool
 
 // The shape that a receiver gives a tag, by the column of shapes: it carries what it does not know.
 pub fn shape_for(column: &[u8; 128], known: TagSet, tag: u64) -> Shape
-    ensures { result ≡ cond (holds known tag) (shapeIn column.now tag) Shape.Absent }
+    ensures { result ≡ cond (holds known tag) (shape_in column.now tag) Shape.Absent }
 {
     if tagset::has(known, tag) {
         return catalogue::shape_at(column, tag);
@@ -98,7 +98,7 @@ pub fn shape_for(column: &[u8; 128], known: TagSet, tag: u64) -> Shape
 
 // Whether a row is not bad, for a shape and a buffer of so many bytes: by its length it is withdrawn or has a value.
 pub fn is_good_row(shape: Shape, room: usize, row: RowWords) -> bool
-    ensures { result ≡ rowGood shape room row }
+    ensures { result ≡ row_good shape room row }
 {
     let length = (row.part % 65536) as usize;
     if catalogue::is_empty(shape, length) {
@@ -108,7 +108,7 @@ pub fn is_good_row(shape: Shape, room: usize, row: RowWords) -> bool
 }
 
 fn is_good_tag(tag: u64) -> bool
-    ensures { result ≡ tagGood tag }
+    ensures { result ≡ tag_good tag }
 {
     if 0 < tag {
         return tag < 2097152;
@@ -118,7 +118,7 @@ fn is_good_tag(tag: u64) -> bool
 
 // A withdrawn row: code 0, and no item that a packet needs; its place does not matter.
 fn is_good_withdrawal(row: RowWords) -> bool
-    ensures { result ≡ withdrawnRowGood row }
+    ensures { result ≡ withdrawn_row_good row }
 {
     if is_good_tag(row.tag) {
         if row.kind == WITHDRAWN {
@@ -133,7 +133,7 @@ fn is_good_withdrawal(row: RowWords) -> bool
 
 // Whether a row of some bytes, or a carried one, is not bad.
 pub fn is_good_value_row(shape: Shape, room: usize, row: RowWords) -> bool
-    ensures { result ≡ valueRowGood shape room row }
+    ensures { result ≡ value_row_good shape room row }
 {
     if is_good_tag(row.tag) {
         if row.kind == kind_of_value(shape, row.code) {
@@ -144,7 +144,7 @@ pub fn is_good_value_row(shape: Shape, room: usize, row: RowWords) -> bool
 }
 
 fn is_good_value(shape: Shape, room: usize, row: RowWords) -> bool
-    ensures { result ≡ valueGood shape room row }
+    ensures { result ≡ value_good shape room row }
 {
     match shape {
         Shape::Text => is_good_part(room, row.code, row.part),
@@ -165,7 +165,7 @@ fn is_good_value(shape: Shape, room: usize, row: RowWords) -> bool
 
 // Text and carried: code 0, and the place plus the length within the buffer.
 fn is_good_part(room: usize, code: u64, part: u64) -> bool
-    ensures { result ≡ partGood room code part }
+    ensures { result ≡ part_good room code part }
 {
     let place = (part / 65536) as usize;
     let length = (part % 65536) as usize;
@@ -177,7 +177,7 @@ fn is_good_part(room: usize, code: u64, part: u64) -> bool
 
 // A number: not too wide for its length, the checksum's aside.
 fn is_good_code(tag: u64, width: usize, code: u64) -> bool
-    ensures { result ≡ codeGood tag width code }
+    ensures { result ≡ code_good tag width code }
 {
     if tag == 1 {
         return true;
@@ -219,14 +219,14 @@ pub enum Taken {
 }
 
 fn refused(reason: Reason, place: usize, tag: u64) -> Taken
-    ensures { takenSaid result ≡ refusedBy (number reason) place tag }
+    ensures { taken_said result ≡ refusedBy (number reason) place tag }
 {
     Taken::Refused(Refusal { reason, place, tag })
 }
 
 // Whether so many rows can stand in so many words.
 pub fn is_good_count(count: usize, lent: usize) -> bool
-    ensures { result ≡ countGood count lent }
+    ensures { result ≡ count_good count lent }
 {
     if count <= 128 {
         return 4 * count <= lent;
@@ -236,7 +236,7 @@ pub fn is_good_count(count: usize, lent: usize) -> bool
 
 // The tag that a bad row is refused with.
 pub fn tag_shown(tag: u64) -> u64
-    ensures { result ≡ tagShown tag }
+    ensures { result ≡ tag_shown tag }
 {
     if tag < 2097152 {
         return tag;
@@ -293,7 +293,7 @@ fn part_of(part: u64) -> Part
 
 // What a row holds, by its kind, its code, and where its value stands.
 pub fn content_of(kind: u64, code: u64, part: Part) -> Content
-    ensures { result ≡ contentOf (saidBy kind code part.length part) }
+    ensures { result ≡ content_of (said_by kind code part.length part) }
 {
     if kind == READING {
         return Content::Reading {
@@ -314,7 +314,7 @@ pub fn content_of(kind: u64, code: u64, part: Part) -> Content
 }
 
 fn single(shape: Shape, room: usize, n: usize, row: RowWords) -> Taken
-    ensures { takenSaid result ≡ rowTaken shape room n row }
+    ensures { taken_said result ≡ row_taken shape room n row }
 {
     if is_good_row(shape, room, row) {
         let part = part_of(row.part);
@@ -328,7 +328,7 @@ fn single(shape: Shape, room: usize, n: usize, row: RowWords) -> Taken
 
 // The row numbered n of count rows, with the buffer that text and carried rows point into: refused as the writer refuses it.
 pub fn take_row(words: &[u64], count: usize, n: usize, known: TagSet, buffer: &[u8]) -> Taken
-    ensures { takenSaid result ≡ rowTakenAt known (length buffer.now) count n words.now }
+    ensures { taken_said result ≡ row_taken_at known (length buffer.now) count n words.now }
 {
     if knowing::is_good(known) {
         if is_good_count(count, words.len()) {

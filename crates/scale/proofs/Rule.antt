@@ -9,29 +9,29 @@ use lib.ListN.{get_or}
 use lib.Dec.{ltb, leb, eqb}
 use lib.Signed.{mag, lt_z}
 use borrow.Author.Tests.{ltb-true, leb-true, eqb-true, not-true}
-use Rattle.base.proofs.Cases.{byLt, never, unless}
+use Rattle.base.proofs.Cases.{by_lt, never, unless}
 use Rattle.base.specs.Every.{all, all_below}
-use Rattle.base.proofs.Every.{all-at, all-below}
-use Rattle.catalogue.specs.Items.{groups, member, itemIn, itemOf}
+use Rattle.base.proofs.Every.{all_at, all-below}
+use Rattle.catalogue.specs.Items.{groups, member, item_in, item_of}
 use Rattle.catalogue.specs.declared.Item.{Item}
 use Rattle.catalogue.specs.declared.Found.{Found}
 use Rattle.catalogue.specs.declared.Found.TheVariants.{Known, Absent}
-use Rattle.catalogue.proofs.Laws.{item-beyond}
+use Rattle.catalogue.proofs.Laws.{item_beyond}
 use Rattle.scale.specs.Nearest.{nearest}
 use Rattle.scale.specs.Scales.{scaled, codes, half, origin, reach, steps}
 use Rattle.scale.specs.code.Rule.{shared, depth, lowest, under, Rule}
 
 -- a test that the scaled items pass, of all tags, holds of each
-abbrev pub ofScaled : (Item → Bool) → Found → Bool
-ofScaled test (Known i) = not (scaled i) || test i
-ofScaled test Absent = true
+abbrev pub of_scaled : (Item → Bool) → Found → Bool
+of_scaled test (Known i) = not (scaled i) || test i
+of_scaled test Absent = true
 
-pub of-scaled : (test : Item → Bool) → all_below (λ t. ofScaled test (itemOf t)) 128 ≡ true
-    → (t : ℕ) (i : Item) → itemOf t ≡ Known i → scaled i ≡ true → test i ≡ true
+pub of-scaled : (test : Item → Bool) → all_below (λ t. of_scaled test (item_of t)) 128 ≡ true
+    → (t : ℕ) (i : Item) → item_of t ≡ Known i → scaled i ≡ true → test i ≡ true
 of-scaled test pass t i e s =
-    byLt t 128
-    (λ h. unless (scaled i) _ (rw e at (all-below (λ t. ofScaled test (itemOf t)) 128 pass t h)) s)
-    (λ h. let z : Known i ≡ Absent = sym e ∙ item-beyond t h in never (cc))
+    by_lt t 128
+    (λ h. unless (scaled i) _ (rw e at (all-below (λ t. of_scaled test (item_of t)) 128 pass t h)) s)
+    (λ h. let z : Known i ≡ Absent = sym e ∙ item_beyond t h in never (cc))
 
 tests : Item → List Bool
 tests i =
@@ -59,14 +59,14 @@ passes b = b
 ruled : Item → Bool
 ruled i = all passes (tests i)
 
-all-ruled : all_below (λ t. ofScaled ruled (itemOf t)) 128 ≡ true
-unfolding groups member itemIn itemOf ruled tests passes codes half origin reach steps nearest
-all-ruled = refl
+all_ruled : all_below (λ t. of_scaled ruled (item_of t)) 128 ≡ true
+unfolding groups member item_in item_of ruled tests passes codes half origin reach steps nearest
+all_ruled = refl
 
 keeps : (i : Item) → all passes (tests i) ≡ true → Rule i
 unfolding tests passes
 keeps i e =
-    let held : (k : ℕ) → k < 16 → get_or (tests i) k true ≡ true = all-at passes (tests i) true e in
+    let held : (k : ℕ) → k < 16 → get_or (tests i) k true ≡ true = all_at passes (tests i) true e in
     record {
       narrow = ltb-true _ _ (held 0 (omega arith));
       halves = eqb-true _ _ (held 1 (omega arith));
@@ -75,17 +75,17 @@ keeps i e =
       low_small = ltb-true _ _ (held 4 (omega arith));
       high_small = ltb-true _ _ (held 5 (omega arith));
       low_below = not-true _ (held 6 (omega arith));
-      high-above = not-true _ (held 7 (omega arith));
-      reach-shared = eqb-true _ _ (held 8 (omega arith));
-      steps-shared = eqb-true _ _ (held 9 (omega arith));
+      high_above = not-true _ (held 7 (omega arith));
+      reach_shared = eqb-true _ _ (held 8 (omega arith));
+      steps_shared = eqb-true _ _ (held 9 (omega arith));
       units_small = ltb-true _ _ (held 10 (omega arith));
-      house-small = ltb-true _ _ (held 11 (omega arith));
-      deep-small = ltb-true _ _ (held 12 (omega arith));
+      house_small = ltb-true _ _ (held 11 (omega arith));
+      deep_small = ltb-true _ _ (held 12 (omega arith));
       high_fits = ltb-true _ _ (held 13 (omega arith));
-      lowest-under = leb-true _ _ (held 14 (omega arith));
-      under-inside = leb-true _ _ (held 15 (omega arith));
+      lowest_under = leb-true _ _ (held 14 (omega arith));
+      under_inside = leb-true _ _ (held 15 (omega arith));
     }
 
-pub rule : (t : ℕ) (i : Item) → itemOf t ≡ Known i → scaled i ≡ true → Rule i
+pub rule : (t : ℕ) (i : Item) → item_of t ≡ Known i → scaled i ≡ true → Rule i
 unfolding ruled
-rule t i e s = keeps i (of-scaled ruled all-ruled t i e s)
+rule t i e s = keeps i (of-scaled ruled all_ruled t i e s)

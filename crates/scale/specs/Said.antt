@@ -7,10 +7,10 @@ use Rattle.scale.specs.declared.Code.{Code}
 use Rattle.scale.specs.declared.ToCode.{ToCode}
 use Rattle.scale.specs.declared.ToCode.TheVariants as code
 
-abbrev pub houseSaid : ToHouse → Answer House
-houseSaid (house.Is h) = given h
-houseSaid (house.Refused r) = refusal r
+abbrev pub house_said : ToHouse → Answer House
+house_said (house.Is h) = given h
+house_said (house.Refused r) = refusal r
 
-abbrev pub codeSaid : ToCode → Answer Code
-codeSaid (code.Is c) = given c
-codeSaid (code.Refused r) = refusal r
+abbrev pub code_said : ToCode → Answer Code
+code_said (code.Is c) = given c
+code_said (code.Refused r) = refusal r

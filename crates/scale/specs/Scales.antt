@@ -3,7 +3,7 @@
 use Rattle.std.specs.Prelude.{ℕ, ◌-◌, ◌*◌, ◌^◌, Bool, not, cond, ◌&&◌, ◌||◌, ltb, leb, eqb, ℤ, pos, neg_ℤ, nat_abs, ◌-ℤ◌}
 use Rattle.std.specs.Int.Signed.{lt_z}
 use Rattle.catalogue.specs.Rows.{is_signed}
-use Rattle.catalogue.specs.Shapes.{isMarked}
+use Rattle.catalogue.specs.Shapes.{is_marked}
 use Rattle.catalogue.specs.declared.Item.{Item}
 
 -- an item without scale has low equal to high. W-202's extended heights have no width: their scale is another, by the length (Extended)
@@ -32,31 +32,31 @@ unfoldable pub steps : Item → ℕ
 steps i = cond (signed i) (half i) (codes i) - 1
 
 -- a code that stands for a number: one that fits and is no mark
-abbrev pub isMark : Item → ℕ → Bool
-isMark i code = isMarked i.sign && eqb code (half i)
+abbrev pub is_mark : Item → ℕ → Bool
+is_mark i code = is_marked i.sign && eqb code (half i)
 
 abbrev pub is_number : Item → ℕ → Bool
-is_number i code = ltb code (codes i) && not (isMark i code)
+is_number i code = ltb code (codes i) && not (is_mark i code)
 
 -- a value outside the range; both ends are inside
 abbrev pub beyond : ℤ → ℤ → ℤ → Bool
 beyond low high value = lt_z value low || lt_z high value
 
-abbrev pub isOutside : Item → ℤ → Bool
-isOutside i value = beyond i.low i.high value
+abbrev pub is_outside : Item → ℤ → Bool
+is_outside i value = beyond i.low i.high value
 
 -- below the origin or not, and how far from it: of a code in two's complement, and of a value
-abbrev pub codeBelow : Item → ℕ → Bool
-codeBelow i code = signed i && leb (half i) code
+abbrev pub code_below : Item → ℕ → Bool
+code_below i code = signed i && leb (half i) code
 
-abbrev pub codeFar : Item → ℕ → ℕ
-codeFar i code = cond (codeBelow i code) (codes i - code) code
+abbrev pub code_far : Item → ℕ → ℕ
+code_far i code = cond (code_below i code) (codes i - code) code
 
-abbrev pub valueBelow : Item → ℤ → Bool
-valueBelow i value = lt_z value (origin i)
+abbrev pub value_below : Item → ℤ → Bool
+value_below i value = lt_z value (origin i)
 
-abbrev pub valueFar : Item → ℤ → ℕ
-valueFar i value = nat_abs (value -ℤ origin i)
+abbrev pub value_far : Item → ℤ → ℕ
+value_far i value = nat_abs (value -ℤ origin i)
 
 -- a distance as a whole number, below or above
 abbrev pub side : Bool → ℕ → ℤ

@@ -3,14 +3,14 @@
 // and W-202 have them.
 ghost use Rattle.std.specs.Prelude.{◌≡◌, true, false, cond, ◌&&◌, ◌-◌, ◌*◌, ◌/◌, ◌^◌, ◌<◌, ◌≤◌, leb, nat_abs, ◌-ℤ◌, ◌+ℤ◌, pos};
 ghost use Rattle.std.specs.Int.Signed.{mag, lt_z};
-ghost use Rattle.catalogue.specs.Shapes.{isMarked};
-ghost use Rattle.catalogue.specs.Extended.{isExtended, inReach};
+ghost use Rattle.catalogue.specs.Shapes.{is_marked};
+ghost use Rattle.catalogue.specs.Extended.{is_extended, in_reach};
 ghost use Rattle.scale.specs.Nearest.{nearest};
-ghost use Rattle.scale.specs.Scales.{is_number, beyond, isOutside, side};
-ghost use Rattle.scale.specs.Extended.{low_end, highEnd, extendedHouse, extendedCode};
-ghost use Rattle.scale.specs.Conversions.{scaledItem, houseOf, toHouse, code_of, toCode};
+ghost use Rattle.scale.specs.Scales.{is_number, beyond, is_outside, side};
+ghost use Rattle.scale.specs.Extended.{low_end, high_end, extended_house, extended_code};
+ghost use Rattle.scale.specs.Conversions.{scaled_item, house_of, to_house, code_of, to_code};
 ghost use Rattle.scale.specs.code.Rule.{Rule, Scales, Counted};
-ghost use Rattle.scale.specs.Said.{houseSaid, codeSaid};
+ghost use Rattle.scale.specs.Said.{house_said, code_said};
 
 use catalogue::{Found, Item, Sign};
 use refusal::{Reason, Refusal};
@@ -41,7 +41,7 @@ pub enum ToCode {
 
 // What a code of so many bytes stands for, in house units. Only of an extended height does the length matter.
 pub fn to_house(tag: u64, length: usize, code: u64) -> ToHouse
-    ensures { houseSaid result ≡ toHouse tag length code }
+    ensures { house_said result ≡ to_house tag length code }
 {
     if catalogue::is_extended(tag) {
         return height_to_house(tag, length, code);
@@ -61,7 +61,7 @@ pub fn to_house(tag: u64, length: usize, code: u64) -> ToHouse
 
 // The code of so many bytes that is nearest to a value in house units, of an extended height the one at or below it.
 pub fn to_code(tag: u64, length: usize, value: i64) -> ToCode
-    ensures { codeSaid result ≡ toCode tag length value }
+    ensures { code_said result ≡ to_code tag length value }
 {
     if catalogue::is_extended(tag) {
         return height_to_code(tag, length, value);
@@ -92,8 +92,8 @@ fn refuse(reason: Reason, tag: u64) -> Refusal
 
 // The item of a tag, if it has a scale: of all items but the extended heights that shows in the range alone.
 fn scaled_item(tag: u64) -> Found
-    requires { isExtended tag ≡ false }
-    ensures { result ≡ scaledItem tag }
+    requires { is_extended tag ≡ false }
+    ensures { result ≡ scaled_item tag }
 {
     match items::item_of(tag) {
         Found::Known(item) => {
@@ -125,7 +125,7 @@ fn codes_of(width: usize) -> u64
 }
 
 fn has_mark(sign: Sign) -> bool
-    ensures { result ≡ isMarked sign }
+    ensures { result ≡ is_marked sign }
 {
     match sign {
         Sign::Marked => true,
@@ -267,7 +267,7 @@ fn placed(origin: i64, below: bool, units: u64) -> i64
 fn house_of(item: Item, code: u64) -> i64
     requires rule { Rule item }
     requires code_value { is_number item code ≡ true }
-    ensures { result ≡ houseOf item code }
+    ensures { result ≡ house_of item code }
 {
     let s = scale_of(item);
     let below = is_below(s, code);
@@ -278,7 +278,7 @@ fn house_of(item: Item, code: u64) -> i64
 
 fn code_of(item: Item, value: i64) -> u64
     requires rule { Rule item }
-    requires value_value { isOutside item value ≡ false }
+    requires value_value { is_outside item value ≡ false }
     ensures { result ≡ code_of item value }
 {
     let s = scale_of(item);
@@ -297,8 +297,8 @@ const HIGH: i64 = 40_000_000;
 
 // An extended height in house units: another length is refused before the code is looked at.
 fn height_to_house(tag: u64, length: usize, code: u64) -> ToHouse
-    requires { isExtended tag ≡ true }
-    ensures { houseSaid result ≡ toHouse tag length code }
+    requires { is_extended tag ≡ true }
+    ensures { house_said result ≡ to_house tag length code }
 {
     if is_height_length(length) {
         if catalogue::is_in_reach(length, code) {
@@ -313,8 +313,8 @@ fn height_to_house(tag: u64, length: usize, code: u64) -> ToHouse
 
 // The code of an extended height: another length is refused before the value is looked at.
 fn height_to_code(tag: u64, length: usize, value: i64) -> ToCode
-    requires { isExtended tag ≡ true }
-    ensures { codeSaid result ≡ toCode tag length value }
+    requires { is_extended tag ≡ true }
+    ensures { code_said result ≡ to_code tag length value }
 {
     if is_height_length(length) {
         if is_outside(LOW, HIGH, value) {
@@ -355,8 +355,8 @@ fn half_of(unit: u64) -> u64
 
 // What a code in reach stands for: parts of which so many as two to the shift are one house unit.
 fn height_of(length: usize, code: u64) -> i64
-    requires { inReach length code ≡ true }
-    ensures { result ≡ extendedHouse length code }
+    requires { in_reach length code ≡ true }
+    ensures { result ≡ extended_house length code }
 {
     let shift = fineness(length);
     let units = (code * 2000 + half_of(1 << shift)) >> shift;
@@ -374,8 +374,8 @@ fn whole_steps(parts: u64) -> u64
 // The code at or below a value between the ends.
 fn height_code(length: usize, value: i64) -> u64
     requires in_bounds { (2 ≤ length) × (length ≤ 4) }
-    requires value_value { beyond low_end highEnd value ≡ false }
-    ensures { result ≡ extendedCode length value }
+    requires value_value { beyond low_end high_end value ≡ false }
+    ensures { result ≡ extended_code length value }
 {
     let far = up_to(LOW, value);
     whole_steps(far << fineness(length))

@@ -9,61 +9,61 @@ use mathlib.Core.List.{◌∷◌, ◌++◌}
 use lib.Pow.{pow-add}
 use lib.ListN.{length}
 use borrow.Author.Tests.{lt-ltb, le-ltb}
-use Rattle.base.proofs.Cases.{byLt}
+use Rattle.base.proofs.Cases.{by_lt}
 use Rattle.base.proofs.Digits.{length_digits as digits_long}
-use Rattle.spelling.specs.Spelling.{digits, countFrom, decimal}
+use Rattle.spelling.specs.Spelling.{digits, count_from, decimal}
 
 -- how many digits
-pub count-one : (m n : ℕ) → n < 10 → countFrom m n ≡ 1
-unfolding countFrom
-count-one zero n h = refl
-count-one (suc m) n h = rw (lt-ltb n 10 h)
+pub count_one : (m n : ℕ) → n < 10 → count_from m n ≡ 1
+unfolding count_from
+count_one zero n h = refl
+count_one (suc m) n h = rw (lt-ltb n 10 h)
 
-pub count-more : (m n : ℕ) → 10 ≤ n → countFrom (suc m) n ≡ suc (countFrom m (n / 10))
-unfolding countFrom
-count-more m n h = rw (le-ltb n 10 h)
+pub count_more : (m n : ℕ) → 10 ≤ n → count_from (suc m) n ≡ suc (count_from m (n / 10))
+unfolding count_from
+count_more m n h = rw (le-ltb n 10 h)
 
-count-few : (m n : ℕ) → countFrom m n ≤ suc m
-unfolding countFrom
-count-few zero n = omega arith
-count-few (suc m) n =
-    byLt n 10
-    (λ h. rw (count-one (suc m) n h) (omega arith))
-    (λ h. rw (count-more m n h) (omega (arith, count-few m (n / 10))))
+count_few : (m n : ℕ) → count_from m n ≤ suc m
+unfolding count_from
+count_few zero n = omega arith
+count_few (suc m) n =
+    by_lt n 10
+    (λ h. rw (count_one (suc m) n h) (omega arith))
+    (λ h. rw (count_more m n h) (omega (arith, count_few m (n / 10))))
 
 length_digits : (k n : ℕ) → length (digits k n) ≡ k
 unfolding digits
 length_digits k n = digits_long 10 (λ d. 48 + d) k n
 
-pub decimal-length : (n : ℕ) → length (decimal n) ≡ countFrom 19 n
+pub decimal_length : (n : ℕ) → length (decimal n) ≡ count_from 19 n
 unfolding decimal
-decimal-length n = length_digits (countFrom 19 n) n
+decimal_length n = length_digits (count_from 19 n) n
 
-pub decimal-few : (n : ℕ) → length (decimal n) ≤ 20
-decimal-few n = rw (decimal-length n) (count-few 19 n)
+pub decimal_few : (n : ℕ) → length (decimal n) ≤ 20
+decimal_few n = rw (decimal_length n) (count_few 19 n)
 
 -- counting: so many digits are counted, and at most so many more are left
 pub record Counting (n size rest : ℕ) : Type 0 where
   pub more : ℕ
   pub few : size + more ≡ 20
   pub small : rest < 10 ^ suc more
-  pub counted : size + countFrom more rest ≡ suc (countFrom 19 n)
+  pub counted : size + count_from more rest ≡ suc (count_from 19 n)
 
-pub count-start : (n : ℕ) → n < 2 ^ 64 → Counting n 1 n
-count-start n h = record { more = 19; few = omega arith; small = omega arith; counted = omega arith }
+pub count_start : (n : ℕ) → n < 2 ^ 64 → Counting n 1 n
+count_start n h = record { more = 19; few = omega arith; small = omega arith; counted = omega arith }
 
-count-on : (n size rest more : ℕ) → size + more ≡ 20 → rest < 10 ^ suc more → size + countFrom more rest ≡ suc (countFrom 19 n) → 10 ≤ rest
+count_on : (n size rest more : ℕ) → size + more ≡ 20 → rest < 10 ^ suc more → size + count_from more rest ≡ suc (count_from 19 n) → 10 ≤ rest
     → Counting n (size + 1) (rest / 10)
-count-on n size rest zero f s c h = absurd (omega arith)
-count-on n size rest (suc more) f s c h =
+count_on n size rest zero f s c h = absurd (omega arith)
+count_on n size rest (suc more) f s c h =
     let p : 10 ^ suc (suc more) ≡ 10 ^ suc more * 10 = pow-suc 10 (suc more) in
-    record { more = more; few = omega arith; small = omega (arith, rw p at s); counted = omega (arith, count-more more rest h) }
+    record { more = more; few = omega arith; small = omega (arith, rw p at s); counted = omega (arith, count_more more rest h) }
 
 pub count_next : (n size rest : ℕ) → Counting n size rest → 10 ≤ rest → Counting n (size + 1) (rest / 10)
-count_next n size rest c h = count-on n size rest c.more c.few c.small c.counted h
+count_next n size rest c h = count_on n size rest c.more c.few c.small c.counted h
 
-pub count-done : (n size rest : ℕ) → Counting n size rest → rest < 10 → size ≡ length (decimal n)
-count-done n size rest c h = rw (decimal-length n) (omega (arith, count-one c.more rest h, c.counted))
+pub count_done : (n size rest : ℕ) → Counting n size rest → rest < 10 → size ≡ length (decimal n)
+count_done n size rest c h = rw (decimal_length n) (omega (arith, count_one c.more rest h, c.counted))
 
 -- the lowest digits are those of what the number leaves
 digits_low : (k l q : ℕ) → digits k (l + 10 ^ k * q) ≡ digits k l
@@ -76,54 +76,54 @@ digits_low (suc k) l q =
     rw (p, head) (ap (λ x. (48 + l / 10 ^ k % 10) ∷ x) (digits_low k l (10 * q)))
 
 -- so many digits, and the lowest after them
-pub digits-split : (j k n : ℕ) → digits j (n / 10 ^ k) ++ digits k (n % 10 ^ k) ≡ digits (j + k) n
+pub digits_split : (j k n : ℕ) → digits j (n / 10 ^ k) ++ digits k (n % 10 ^ k) ≡ digits (j + k) n
 unfolding digits
-digits-split zero k n =
+digits_split zero k n =
     let e : n % 10 ^ k + 10 ^ k * (n / 10 ^ k) ≡ n = mod-add-div n (10 ^ k) in
     sym (digits_low k (n % 10 ^ k) (n / 10 ^ k)) ∙ (ap (digits k) e ∙ ap (λ i. digits i n) (sym (zero-add k)))
-digits-split (suc j) k n =
+digits_split (suc j) k n =
     let p : 10 ^ k * 10 ^ j ≡ 10 ^ (j + k) = sym (pow-add 10 k j) ∙ ap (λ i. 10 ^ i) (add_comm k j) in
     let e : n / 10 ^ k / 10 ^ j ≡ n / 10 ^ (j + k) = div-div-eq-div-mul n (10 ^ k) (10 ^ j) ∙ ap (λ x. n / x) p in
-    rw (suc-add j k, e) (ap (λ x. (48 + n / 10 ^ (j + k) % 10) ∷ x) (digits-split j k n))
+    rw (suc-add j k, e) (ap (λ x. (48 + n / 10 ^ (j + k) % 10) ∷ x) (digits_split j k n))
 
 -- more may be left than there are
-count_same : (m n : ℕ) → n < 10 ^ suc m → countFrom (suc m) n ≡ countFrom m n
-count_same zero n h = count-one 1 n h ∙ sym (count-one 0 n h)
+count_same : (m n : ℕ) → n < 10 ^ suc m → count_from (suc m) n ≡ count_from m n
+count_same zero n h = count_one 1 n h ∙ sym (count_one 0 n h)
 count_same (suc m) n h =
-    byLt n 10
-    (λ small. count-one (suc (suc m)) n small ∙ sym (count-one (suc m) n small))
+    by_lt n 10
+    (λ small. count_one (suc (suc m)) n small ∙ sym (count_one (suc m) n small))
     (λ large.
     let b : n / 10 < 10 ^ suc m = omega (arith, rw (pow-suc 10 (suc m)) at h) in
-    count-more (suc m) n large ∙ (ap suc (count_same m (n / 10) b) ∙ sym (count-more m n large)))
+    count_more (suc m) n large ∙ (ap suc (count_same m (n / 10) b) ∙ sym (count_more m n large)))
 
-count-split : (k n : ℕ) → 10 ^ k ≤ n → n < 10 ^ 20 → countFrom 19 n ≡ countFrom 19 (n / 10 ^ k) + k
-count-split zero n h b = rw (pow-zero, div-one, add-zero)
-count-split (suc k) n h b =
+count_split : (k n : ℕ) → 10 ^ k ≤ n → n < 10 ^ 20 → count_from 19 n ≡ count_from 19 (n / 10 ^ k) + k
+count_split zero n h b = rw (pow-zero, div-one, add-zero)
+count_split (suc k) n h b =
     let some : 1 ≤ 10 ^ k = one-le-pow k 10 (omega arith) in
     let l : 10 ^ k * 10 ≤ n = rw (pow-suc 10 k) at h in
     let e : n / 10 / 10 ^ k ≡ n / 10 ^ suc k = div-div-eq-div-mul n 10 (10 ^ k) ∙ ap (λ x. n / x) (sym (pow-succ' 10 k)) in
-    let rest = count-split k (n / 10) (omega arith) (omega arith) in
-    count-more 18 n (omega arith) ∙ (ap suc (sym (count_same 18 (n / 10) (omega arith)) ∙ rest) ∙ rw e (omega arith))
+    let rest = count_split k (n / 10) (omega arith) (omega arith) in
+    count_more 18 n (omega arith) ∙ (ap suc (sym (count_same 18 (n / 10) (omega arith)) ∙ rest) ∙ rw e (omega arith))
 
 -- a number is what stands before its lowest digits, and they
-pub decimal-split : (k n : ℕ) → 10 ^ k ≤ n → n < 10 ^ 20 → decimal (n / 10 ^ k) ++ digits k (n % 10 ^ k) ≡ decimal n
+pub decimal_split : (k n : ℕ) → 10 ^ k ≤ n → n < 10 ^ 20 → decimal (n / 10 ^ k) ++ digits k (n % 10 ^ k) ≡ decimal n
 unfolding decimal
-decimal-split k n h b = digits-split (countFrom 19 (n / 10 ^ k)) k n ∙ ap (λ i. digits i n) (sym (count-split k n h b))
+decimal_split k n h b = digits_split (count_from 19 (n / 10 ^ k)) k n ∙ ap (λ i. digits i n) (sym (count_split k n h b))
 
-pub decimal-one : (n : ℕ) → n < 10 → digits 1 n ≡ decimal n
+pub decimal_one : (n : ℕ) → n < 10 → digits 1 n ≡ decimal n
 unfolding decimal
-decimal-one n h = rw (count-one 19 n h)
+decimal_one n h = rw (count_one 19 n h)
 
 -- of which the first is the only one
-decimal-exact : (k n : ℕ) → 10 ^ k ≤ n → n / 10 ^ k < 10 → n < 10 ^ 20 → digits (1 + k) n ≡ decimal n
-decimal-exact k n h few b =
-    sym (digits-split 1 k n) ∙ (ap (λ l. l ++ digits k (n % 10 ^ k)) (decimal-one (n / 10 ^ k) few) ∙ decimal-split k n h b)
+decimal_exact : (k n : ℕ) → 10 ^ k ≤ n → n / 10 ^ k < 10 → n < 10 ^ 20 → digits (1 + k) n ≡ decimal n
+decimal_exact k n h few b =
+    sym (digits_split 1 k n) ∙ (ap (λ l. l ++ digits k (n % 10 ^ k)) (decimal_one (n / 10 ^ k) few) ∙ decimal_split k n h b)
 
-pub decimal-two : (n : ℕ) → 10 ≤ n → n < 100 → digits 2 n ≡ decimal n
-decimal-two n h k = decimal-exact 1 n h (omega arith) (omega arith)
+pub decimal_two : (n : ℕ) → 10 ≤ n → n < 100 → digits 2 n ≡ decimal n
+decimal_two n h k = decimal_exact 1 n h (omega arith) (omega arith)
 
-pub decimal-three : (n : ℕ) → 100 ≤ n → n < 1000 → digits 1 (n / 100) ++ digits 2 (n % 100) ≡ decimal n
-decimal-three n h k = digits-split 1 2 n ∙ decimal-exact 2 n h (omega arith) (omega arith)
+pub decimal_three : (n : ℕ) → 100 ≤ n → n < 1000 → digits 1 (n / 100) ++ digits 2 (n % 100) ≡ decimal n
+decimal_three n h k = digits_split 1 2 n ∙ decimal_exact 2 n h (omega arith) (omega arith)
 
-pub decimal-four : (n : ℕ) → 1000 ≤ n → n < 10000 → digits 4 n ≡ decimal n
-decimal-four n h k = decimal-exact 3 n h (omega arith) (omega arith)
+pub decimal_four : (n : ℕ) → 1000 ≤ n → n < 10000 → digits 4 n ≡ decimal n
+decimal_four n h k = decimal_exact 3 n h (omega arith) (omega arith)

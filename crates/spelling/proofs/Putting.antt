@@ -7,34 +7,34 @@ use mathlib.Core.Path.{◌≡◌, refl, ap, ◌∙◌}
 use mathlib.Core.List.{List, [], ◌∷◌, ◌++◌, append_assoc}
 use lib.ListN.{length, get_or, take, set, length-append}
 use lib.Seq.{take-suc, length-take-le}
-use Rattle.base.specs.Putting.{Puts, Room, Wrote, putInto}
-use Rattle.base.proofs.Putting.{put_one, put_next, no_room, all-put, all-wrote, room_of, room-first, room_after, wrote_as, wrote_then}
-use Rattle.spelling.specs.Spelling.{digits, hexDigit, hex}
-use Rattle.spelling.proofs.Laws.{hex-length}
+use Rattle.base.specs.Putting.{Puts, Room, Wrote, put_into}
+use Rattle.base.proofs.Putting.{put_one, put_next, no_room, all_put, all_wrote, room_of, room_first, room_after, wrote_as, wrote_then}
+use Rattle.spelling.specs.Spelling.{digits, hex_digit, hex}
+use Rattle.spelling.proofs.Laws.{hex_length}
 
-hex-append : (l m : List ℕ) → hex (l ++ m) ≡ hex l ++ hex m
+hex_append : (l m : List ℕ) → hex (l ++ m) ≡ hex l ++ hex m
 unfolding hex
-hex-append [] m = refl
-hex-append (b ∷ l) m = ap (λ x. hexDigit (b / 16) ∷ hexDigit (b % 16) ∷ x) (hex-append l m)
+hex_append [] m = refl
+hex_append (b ∷ l) m = ap (λ x. hex_digit (b / 16) ∷ hex_digit (b % 16) ∷ x) (hex_append l m)
 
-hex-next : (l : List ℕ) (i : ℕ) → i < length l
-    → hex (take (i + 1) l) ≡ hex (take i l) ++ (hexDigit (get_or l i 0 / 16) ∷ hexDigit (get_or l i 0 % 16) ∷ [])
+hex_next : (l : List ℕ) (i : ℕ) → i < length l
+    → hex (take (i + 1) l) ≡ hex (take i l) ++ (hex_digit (get_or l i 0 / 16) ∷ hex_digit (get_or l i 0 % 16) ∷ [])
 unfolding hex
-hex-next l i h = rw (add-one, take-suc l i 0 h, hex-append)
+hex_next l i h = rw (add-one, take-suc l i 0 h, hex_append)
 
 -- two digits more
 module _ (o : List ℕ) (at : ℕ) (out : List ℕ) (i : ℕ) (l : List ℕ) (h : i < length l) where
-  pub hex-put : (high low : ℕ) → high ≡ hexDigit (get_or l i 0 / 16) → low ≡ hexDigit (get_or l i 0 % 16) → at + 2 * length l ≤ length o
-      → out ≡ putInto o at (hex (take i l)) → set (set out (at + 2 * i) high) (at + 2 * i + 1) low ≡ putInto o at (hex (take (i + 1) l))
-  hex-put high low eh el room e =
+  pub hex_put : (high low : ℕ) → high ≡ hex_digit (get_or l i 0 / 16) → low ≡ hex_digit (get_or l i 0 % 16) → at + 2 * length l ≤ length o
+      → out ≡ put_into o at (hex (take i l)) → set (set out (at + 2 * i) high) (at + 2 * i + 1) low ≡ put_into o at (hex (take (i + 1) l))
+  hex_put high low eh el room e =
       let bs : List ℕ = hex (take i l) in
-      let k : length bs ≡ 2 * i = hex-length (take i l) ∙ ap (λ x. 2 * x) (length-take-le i l (omega arith)) in
-      let first : set (putInto o at bs) (at + 2 * i) high ≡ putInto o at (bs ++ (high ∷ [])) =
+      let k : length bs ≡ 2 * i = hex_length (take i l) ∙ ap (λ x. 2 * x) (length-take-le i l (omega arith)) in
+      let first : set (put_into o at bs) (at + 2 * i) high ≡ put_into o at (bs ++ (high ∷ [])) =
       rw k at (put_next o at bs high (rw k (omega arith))) in
       let j : at + length (bs ++ (high ∷ [])) ≡ at + 2 * i + 1 = rw length-append (omega arith) in
-      let second : set (putInto o at (bs ++ (high ∷ []))) (at + 2 * i + 1) low ≡ putInto o at (bs ++ (high ∷ []) ++ (low ∷ [])) =
+      let second : set (put_into o at (bs ++ (high ∷ []))) (at + 2 * i + 1) low ≡ put_into o at (bs ++ (high ∷ []) ++ (low ∷ [])) =
       rw j at (put_next o at (bs ++ (high ∷ [])) low (rw j (omega arith))) in
-      rw (e, first, second, append_assoc bs (high ∷ []) (low ∷ []), eh, el, hex-next l i h)
+      rw (e, first, second, append_assoc bs (high ∷ []) (low ∷ []), eh, el, hex_next l i h)
 
 -- a digit
 module _ {o : List ℕ} {at : ℕ} (d : ℕ) where
@@ -42,38 +42,38 @@ module _ {o : List ℕ} {at : ℕ} (d : ℕ) where
   unfolding digits
   digit_room h = omega (arith, h.fits)
 
-  pub digit-wrote : d < 10 → Room o at (digits 1 d) → Wrote o at (digits 1 d) (at + 1) (set o at (48 + d))
+  pub digit_wrote : d < 10 → Room o at (digits 1 d) → Wrote o at (digits 1 d) (at + 1) (set o at (48 + d))
   unfolding digits
-  digit-wrote few h =
+  digit_wrote few h =
       let e : 48 + d ≡ 48 + d / 10 ^ 0 % 10 = omega arith in
-      all-wrote o at 1 (digits 1 d) refl (omega (arith, digit_room h)) _ (put_one o at (48 + d) (digit_room h) ∙ ap (λ b. putInto o at (b ∷ [])) e)
+      all_wrote o at 1 (digits 1 d) refl (omega (arith, digit_room h)) _ (put_one o at (48 + d) (digit_room h) ∙ ap (λ b. put_into o at (b ∷ [])) e)
 
 -- what was put, by the place after it
-pub wrote-puts : {o : List ℕ} {at : ℕ} {bs : List ℕ} {n : ℕ} {o' : List ℕ} → Wrote o at bs n o' → Puts o at bs (n - at) o'
-wrote-puts {o} {at} {bs} {n} {o'} w =
+pub wrote_puts : {o : List ℕ} {at : ℕ} {bs : List ℕ} {n : ℕ} {o' : List ℕ} → Wrote o at bs n o' → Puts o at bs (n - at) o'
+wrote_puts {o} {at} {bs} {n} {o'} w =
     let e : length bs ≡ n - at = omega (arith, w.after) in
-    all-put o at (n - at) bs e (omega (arith, w.after, w.inside)) o' w.output
+    all_put o at (n - at) bs e (omega (arith, w.after, w.inside)) o' w.output
 
 -- a minus sign, and a number after it
 module _ (o : List ℕ) (at : ℕ) (bs : List ℕ) where
-  pub minus-short : length o < at + 1 + length bs → Puts o at (45 ∷ bs) 0 o
-  minus-short h = no_room o at (suc (length bs)) (45 ∷ bs) refl (omega arith)
+  pub minus_short : length o < at + 1 + length bs → Puts o at (45 ∷ bs) 0 o
+  minus_short h = no_room o at (suc (length bs)) (45 ∷ bs) refl (omega arith)
 
-  pub minus-none : length o ≤ at → Puts o at (45 ∷ bs) 0 o
-  minus-none h = minus-short (omega arith)
+  pub minus_none : length o ≤ at → Puts o at (45 ∷ bs) 0 o
+  minus_none h = minus_short (omega arith)
 
-pub minus-wrote : (o : List ℕ) {at : ℕ} {bs : List ℕ} {n : ℕ} {o' : List ℕ} → at < length o → Wrote (set o at 45) (at + 1) bs n o'
+pub minus_wrote : (o : List ℕ) {at : ℕ} {bs : List ℕ} {n : ℕ} {o' : List ℕ} → at < length o → Wrote (set o at 45) (at + 1) bs n o'
     → Wrote o at (45 ∷ bs) n o'
-minus-wrote o {at} h w = wrote_then (all-wrote o at 1 (45 ∷ []) refl (omega arith) _ (put_one o at 45 h)) w
+minus_wrote o {at} h w = wrote_then (all_wrote o at 1 (45 ∷ []) refl (omega arith) _ (put_one o at 45 h)) w
 
 -- a text in two parts
 module _ {o : List ℕ} {at : ℕ} {high : List ℕ} (low : List ℕ) {text : List ℕ} (e : high ++ low ≡ text) where
-  pub high-room : Room o at text → Room o at high
-  high-room h = room-first low (room_of e h)
+  pub high_room : Room o at text → Room o at high
+  high_room h = room_first low (room_of e h)
 
   module _ {m : ℕ} {o₁ : List ℕ} (w : Wrote o at high m o₁) where
-    pub low-room : Room o at text → Room o₁ m low
-    low-room h = room_after w (room_of e h)
+    pub low_room : Room o at text → Room o₁ m low
+    low_room h = room_after w (room_of e h)
 
-    pub both-wrote : {n : ℕ} {o₂ : List ℕ} → Wrote o₁ m low n o₂ → Wrote o at text n o₂
-    both-wrote v = wrote_as e (wrote_then w v)
+    pub both_wrote : {n : ℕ} {o₂ : List ℕ} → Wrote o₁ m low n o₂ → Wrote o at text n o₂
+    both_wrote v = wrote_as e (wrote_then w v)

@@ -15,14 +15,14 @@ use Rattle.spelling.specs.Spelling.{decimal, whole}
 
 pub record Below (z : ℤ) : Type 0 where
   pub less : ℕ
-  pub more-fits : SFits w64 (z +ℤ pos 1)
+  pub more_fits : SFits w64 (z +ℤ pos 1)
   pub away : pos 0 -ℤ (z +ℤ pos 1) ≡ pos less
   pub small : less < 2 ^ 63
   pub far : nat_abs z ≡ less + 1
 
-one_more : (n : ℕ) → negsuc n +ℤ pos 1 ≡ neg_ℤ (pos n)
-one_more zero = refl
-one_more (suc n) = +ℤ_one (negsuc (suc n))
+one-more : (n : ℕ) → negsuc n +ℤ pos 1 ≡ neg_ℤ (pos n)
+one-more zero = refl
+one-more (suc n) = +ℤ_one (negsuc (suc n))
 
 negative_fits : (n : ℕ) → n < 2 ^ 63 → SFits w64 (neg_ℤ (pos n))
 negative_fits zero h = record { sfits = omega arith }
@@ -33,8 +33,8 @@ is_below (pos n) f e = absurd (omega (arith, ltb-true n 0 e))
 is_below (negsuc n) f e =
     record {
       less = n;
-      more-fits = rw (one_more n) (negative_fits n f.sfits);
-      away = ap (λ x. pos 0 -ℤ x) (one_more n) ∙ (ap (λ x. pos 0 +ℤ x) (neg_ℤ-neg_ℤ (pos n)) ∙ +ℤ_idl (pos n));
+      more_fits = rw (one-more n) (negative_fits n f.sfits);
+      away = ap (λ x. pos 0 -ℤ x) (one-more n) ∙ (ap (λ x. pos 0 +ℤ x) (neg_ℤ-neg_ℤ (pos n)) ∙ +ℤ_idl (pos n));
       small = f.sfits;
       far = omega arith;
     }

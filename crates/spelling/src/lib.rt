@@ -3,7 +3,7 @@
 ghost use Rattle.std.specs.Prelude.{◌≡◌, true, false, ◌∷◌, ◌+◌, ◌<◌, ◌≤◌, pos, nat_abs, length};
 ghost use Rattle.std.specs.Int.Signed.{lt_z};
 ghost use Rattle.base.specs.Putting.{Puts, Room, Wrote};
-ghost use Rattle.spelling.specs.Spelling.{digits, decimal, whole, hexDigit, hex};
+ghost use Rattle.spelling.specs.Spelling.{digits, decimal, whole, hex_digit, hex};
 
 // How many digits a number has.
 pub fn decimal_size(n: u64) -> usize
@@ -191,7 +191,7 @@ pub fn put_whole(out: &mut [u8], at: usize, v: i64) -> usize
 // A digit of upper-case hexadecimal.
 fn hex_digit(d: u8) -> u8
     requires { d < 16 }
-    ensures { result ≡ hexDigit d }
+    ensures { result ≡ hex_digit d }
 {
     if d < 10 {
         return 48 + d;

@@ -15,20 +15,20 @@ use Rattle.tagset.proofs.meet_of.Reads as meet-of-reads
 use Rattle.tagset.proofs.is_same.Kinds as is-same-kinds
 use Rattle.tagset.proofs.is_same.Reads as is-same-reads
 
-pub has-determined : Answered 0 has-kinds.ps has-kinds.r has-reads.Post
-has-determined κs a z z' e e' p q = p ∙ sym q
+pub has_determined : Answered 0 has-kinds.ps has-kinds.r has-reads.Post
+has_determined κs a z z' e e' p q = p ∙ sym q
 
-pub is-within-determined : Answered 0 is-within-kinds.ps is-within-kinds.r is-within-reads.Post
-is-within-determined κs a z z' e e' p q = p ∙ sym q
+pub is_within_determined : Answered 0 is-within-kinds.ps is-within-kinds.r is-within-reads.Post
+is_within_determined κs a z z' e e' p q = p ∙ sym q
 
-pub with-tag-determined : Answered 0 with-tag-kinds.ps with-tag-kinds.r with-tag-reads.Post
-with-tag-determined κs a z z' e e' p q = p ∙ sym q
+pub with_tag_determined : Answered 0 with-tag-kinds.ps with-tag-kinds.r with-tag-reads.Post
+with_tag_determined κs a z z' e e' p q = p ∙ sym q
 
-pub size-of-determined : Answered 0 size-of-kinds.ps size-of-kinds.r size-of-reads.Post
-size-of-determined κs a z z' e e' p q = p ∙ sym q
+pub size_of_determined : Answered 0 size-of-kinds.ps size-of-kinds.r size-of-reads.Post
+size_of_determined κs a z z' e e' p q = p ∙ sym q
 
-pub meet-of-determined : Answered 0 meet-of-kinds.ps meet-of-kinds.r meet-of-reads.Post
-meet-of-determined κs a z z' e e' p q = p ∙ sym q
+pub meet_of_determined : Answered 0 meet-of-kinds.ps meet-of-kinds.r meet-of-reads.Post
+meet_of_determined κs a z z' e e' p q = p ∙ sym q
 
-pub is-same-determined : Answered 0 is-same-kinds.ps is-same-kinds.r is-same-reads.Post
-is-same-determined κs a z z' e e' p q = p ∙ sym q
+pub is_same_determined : Answered 0 is-same-kinds.ps is-same-kinds.r is-same-reads.Post
+is_same_determined κs a z z' e e' p q = p ∙ sym q

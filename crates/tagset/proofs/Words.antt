@@ -6,7 +6,7 @@ use native.Mathlib.Nat.{le_trans, div-eq_of_lt, pow-suc, one-mul, mul-div_cancel
 use mathlib.Core.Path.{◌≡◌, refl, ap, sym, ◌∙◌}
 use lib.Pow.{pow-add, pow-lt, pow_pos, shl_exact, pow_mono, shr-shr, field, mod-mod-pow, high, low}
 use lib.Bits.{bit_or, or_shr, or_mod, or_zero_r, bit_and, and_mask, and_step, and_shr, and_mod, and_zero_l}
-use Rattle.base.proofs.Cases.{byEq, byLt}
+use Rattle.base.proofs.Cases.{by_eq, by_lt}
 
 pub and_one : (x : ℕ) → bit_and x 1 ≡ x % 2
 and_one x = and_mask x 1
@@ -26,15 +26,15 @@ module _ (h l : ℕ) (l64 : l < 2 ^ 64) where
       let e : 64 + (t - 64) ≡ t = omega arith in
       ap (λ j. n / 2 ^ j) (sym e) ∙ sym (shr-shr n 64 (t - 64)) ∙ ap (λ x. x / 2 ^ (t - 64)) (high h 64 l64)
 
-  pub no-bit : (t : ℕ) → 128 ≤ t → h < 2 ^ 64 → (h * 2 ^ 64 + l) / 2 ^ t ≡ 0
-  no-bit t k h64 = high_bit t (omega arith) ∙ div-eq_of_lt (le_trans h64 (pow_mono {i = 64} {j = t - 64} (omega arith)))
+  pub no_bit : (t : ℕ) → 128 ≤ t → h < 2 ^ 64 → (h * 2 ^ 64 + l) / 2 ^ t ≡ 0
+  no_bit t k h64 = high_bit t (omega arith) ∙ div-eq_of_lt (le_trans h64 (pow_mono {i = 64} {j = t - 64} (omega arith)))
 
 -- bit k of a word
 abbrev pub bit : ℕ → ℕ → ℕ
 bit w k = w / 2 ^ k % 2
 
-pub bit-small : (w k : ℕ) → bit w k < 2
-bit-small w k = omega arith
+pub bit_small : (w k : ℕ) → bit w k < 2
+bit_small w k = omega arith
 
 both_bits : (x y : ℕ) → x < 2 → y < 2 → bit_and x y ≡ x → x ≡ 1 → y ≡ 1
 both_bits x zero h k e f = absurd (omega (arith, ap (λ z. bit_and z 0) f))
@@ -42,34 +42,34 @@ both_bits x (suc zero) h k e f = refl
 both_bits x (suc (suc y)) h k e f = absurd (omega arith)
 
 -- a word that a mask leaves as it is has no bit that the mask lacks
-pub masked-bits : (a b : ℕ) → bit_and a b ≡ a → (k : ℕ) → bit a k ≡ 1 → bit b k ≡ 1
-masked-bits a b e k f =
+pub masked_bits : (a b : ℕ) → bit_and a b ≡ a → (k : ℕ) → bit a k ≡ 1 → bit b k ≡ 1
+masked_bits a b e k f =
     let g : bit_and (bit a k) (bit b k) ≡ bit a k =
     sym (and_mod (a / 2 ^ k) (b / 2 ^ k) 1) ∙ (ap (λ x. x % 2) (sym (and_shr a b k)) ∙ ap (λ x. bit x k) e) in
-    both_bits (bit a k) (bit b k) (bit-small a k) (bit-small b k) g f
+    both_bits (bit a k) (bit b k) (bit_small a k) (bit_small b k) g f
 
-min-bits : (x y : ℕ) → x < 2 → y < 2 → (x ≡ 1 → y ≡ 1) → min x y ≡ x
-min-bits x y h k f = byEq x 1 (λ e. omega (arith, f e)) (λ n. omega arith)
+min_bits : (x y : ℕ) → x < 2 → y < 2 → (x ≡ 1 → y ≡ 1) → min x y ≡ x
+min_bits x y h k f = by_eq x 1 (λ e. omega (arith, f e)) (λ n. omega arith)
 
-half-bit : (a k : ℕ) → bit (a / 2) k ≡ bit a (1 + k)
-half-bit a k = ap (λ x. x % 2) (shr-shr a 1 k)
+half_bit : (a k : ℕ) → bit (a / 2) k ≡ bit a (1 + k)
+half_bit a k = ap (λ x. x % 2) (shr-shr a 1 k)
 
-pub bits-masked : (n a b : ℕ) → a < 2 ^ n → ((k : ℕ) → k < n → bit a k ≡ 1 → bit b k ≡ 1) → bit_and a b ≡ a
-bits-masked zero a b h f = let e : a ≡ 0 = omega arith in rw e (and_zero_l b)
-bits-masked (suc n) a b h f =
+pub bits_masked : (n a b : ℕ) → a < 2 ^ n → ((k : ℕ) → k < n → bit a k ≡ 1 → bit b k ≡ 1) → bit_and a b ≡ a
+bits_masked zero a b h f = let e : a ≡ 0 = omega arith in rw e (and_zero_l b)
+bits_masked (suc n) a b h f =
     let p : 2 ^ suc n ≡ 2 ^ n * 2 = pow-suc 2 n in
     let half : bit_and (a / 2) (b / 2) ≡ a / 2 =
-    bits-masked n (a / 2) (b / 2) (omega arith) (λ k l g. half-bit b k ∙ f (1 + k) (omega arith) (sym (half-bit a k) ∙ g)) in
-    let last : min (a % 2) (b % 2) ≡ a % 2 = min-bits (a % 2) (b % 2) (omega arith) (omega arith) (λ g. omega (arith, f 0 (omega arith) (omega arith))) in
+    bits_masked n (a / 2) (b / 2) (omega arith) (λ k l g. half_bit b k ∙ f (1 + k) (omega arith) (sym (half_bit a k) ∙ g)) in
+    let last : min (a % 2) (b % 2) ≡ a % 2 = min_bits (a % 2) (b % 2) (omega arith) (omega arith) (λ g. omega (arith, f 0 (omega arith) (omega arith))) in
     and_step a b ∙ omega arith
 
 pub one_shl : (k : ℕ) → k < 64 → 1 * 2 ^ k % 2 ^ 64 ≡ 2 ^ k
 one_shl k h = shl_exact {a = 1} 1 k 64 (omega arith) (omega arith) ∙ one-mul (2 ^ k)
 
 -- a bit set, and the others as they were
-pow-bit : (k j : ℕ) → (j ≡ k → ⊥) → bit (2 ^ k) j ≡ 0
-pow-bit k j other =
-    byLt j k
+pow_bit : (k j : ℕ) → (j ≡ k → ⊥) → bit (2 ^ k) j ≡ 0
+pow_bit k j other =
+    by_lt j k
     (λ h.
     let e : k ≡ suc (k - (j + 1)) + j = omega arith in
     ap (λ n. 2 ^ n / 2 ^ j % 2) e
@@ -79,20 +79,20 @@ pow-bit k j other =
     ∙ mul-mod_left (2 ^ (k - (j + 1))) 2)
     (λ h. ap (λ n. n % 2) (div-eq_of_lt (pow-lt (omega arith))))
 
-or-bit : (w v j : ℕ) → bit (bit_or w v) j ≡ bit_or (bit w j) (bit v j)
-or-bit w v j = ap (λ n. n % 2) (or_shr w v j) ∙ or_mod (w / 2 ^ j) (v / 2 ^ j) 1
+or_bit : (w v j : ℕ) → bit (bit_or w v) j ≡ bit_or (bit w j) (bit v j)
+or_bit w v j = ap (λ n. n % 2) (or_shr w v j) ∙ or_mod (w / 2 ^ j) (v / 2 ^ j) 1
 
-or-one : (x : ℕ) → x < 2 → bit_or x 1 ≡ 1
-or-one zero h = refl
-or-one (suc zero) h = refl
-or-one (suc (suc x)) h = absurd (omega arith)
+or_one : (x : ℕ) → x < 2 → bit_or x 1 ≡ 1
+or_one zero h = refl
+or_one (suc zero) h = refl
+or_one (suc (suc x)) h = absurd (omega arith)
 
 pub set-bit : (w k : ℕ) → bit (bit_or w (2 ^ k)) k ≡ 1
 set-bit w k =
-    or-bit w (2 ^ k) k ∙ (ap (λ n. bit_or (bit w k) (n % 2)) (div_self (pow_pos k)) ∙ or-one (bit w k) (bit-small w k))
+    or_bit w (2 ^ k) k ∙ (ap (λ n. bit_or (bit w k) (n % 2)) (div_self (pow_pos k)) ∙ or_one (bit w k) (bit_small w k))
 
-pub other-bit : (w k j : ℕ) → (j ≡ k → ⊥) → bit (bit_or w (2 ^ k)) j ≡ bit w j
-other-bit w k j other = or-bit w (2 ^ k) j ∙ (ap (bit_or (bit w j)) (pow-bit k j other) ∙ or_zero_r (bit w j))
+pub other_bit : (w k j : ℕ) → (j ≡ k → ⊥) → bit (bit_or w (2 ^ k)) j ≡ bit w j
+other_bit w k j other = or_bit w (2 ^ k) j ∙ (ap (bit_or (bit w j)) (pow_bit k j other) ∙ or_zero_r (bit w j))
 
-pub and-bit : (w v j : ℕ) → bit (bit_and w v) j ≡ bit_and (bit w j) (bit v j)
-and-bit w v j = ap (λ n. n % 2) (and_shr w v j) ∙ and_mod (w / 2 ^ j) (v / 2 ^ j) 1
+pub and_bit : (w v j : ℕ) → bit (bit_and w v) j ≡ bit_and (bit w j) (bit v j)
+and_bit w v j = ap (λ n. n % 2) (and_shr w v j) ∙ and_mod (w / 2 ^ j) (v / 2 ^ j) 1

@@ -9,8 +9,8 @@ abbrev pub knowing : ℕ → ℕ → TagSet
 knowing low high = record { low = low; high = high }
 
 -- no tag
-abbrev pub noTags : TagSet
-noTags = knowing 0 0
+abbrev pub no_tags : TagSet
+no_tags = knowing 0 0
 
 -- the two words as one number
 abbrev pub pair : TagSet → ℕ
@@ -24,13 +24,13 @@ unfoldable pub within : TagSet → TagSet → Bool
 within s of = all_below (λ t. not (holds s t) || holds of t) 128
 
 -- how many tags below a tag it holds
-unfoldable pub countBelow : TagSet → ℕ → ℕ
-countBelow s zero = 0
-countBelow s (suc t) = cond (holds s t) 1 0 + countBelow s t
+unfoldable pub count_below : TagSet → ℕ → ℕ
+count_below s zero = 0
+count_below s (suc t) = cond (holds s t) 1 0 + count_below s t
 
 -- how many tags it holds: the set bits of the pair
 unfoldable pub size : TagSet → ℕ
-size s = countBelow s 128
+size s = count_below s 128
 
 -- the tags that both hold
 unfoldable pub meet : TagSet → TagSet → TagSet

@@ -1,7 +1,7 @@
 // The reader: of check and of read the row count or a refusal, then each row's four words; of a row taken out singly what it holds.
 ghost use Rattle.std.specs.Prelude.{◌≡◌, length};
 ghost use Rattle.refusal.specs.Answer.{or_else};
-ghost use Rattle.reader.specs.Reads.{readSaid};
+ghost use Rattle.reader.specs.Reads.{read_said};
 
 use crate::text::{newline, sized, tab};
 use console::{decimal, field, refused, say};
@@ -17,7 +17,7 @@ fn accepted(count: usize) {
 
 // Writes what a reading came to, and answers how many rows there are to write: none after a refusal.
 pub fn answered(answer: Reading) -> usize
-    ensures { result ≡ or_else 0 (λ f. f.count) (readSaid answer) }
+    ensures { result ≡ or_else 0 (λ f. f.count) (read_said answer) }
 {
     say(STDOUT_FILENO, b"read\t");
     match answer {

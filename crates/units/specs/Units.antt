@@ -4,12 +4,12 @@ use Rattle.std.specs.Prelude.{ℕ}
 use Rattle.catalogue.specs.declared.Unit.{Unit}
 use Rattle.catalogue.specs.declared.Unit.TheVariants.{None, Degree, Metre, MetrePerSecond, Millibar, Percent, Celsius, Microsecond}
 
-abbrev pub unitNumber : Unit → ℕ
-unitNumber None = 0
-unitNumber Degree = 1
-unitNumber Metre = 2
-unitNumber MetrePerSecond = 3
-unitNumber Millibar = 4
-unitNumber Percent = 5
-unitNumber Celsius = 6
-unitNumber Microsecond = 7
+abbrev pub unit_number : Unit → ℕ
+unit_number None = 0
+unit_number Degree = 1
+unit_number Metre = 2
+unit_number MetrePerSecond = 3
+unit_number Millibar = 4
+unit_number Percent = 5
+unit_number Celsius = 6
+unit_number Microsecond = 7

@@ -2,15 +2,15 @@
 // The tags of a unit are a set of two words, so that no table is looked through.
 ghost use Rattle.std.specs.Prelude.{◌≡◌};
 ghost use Rattle.catalogue.specs.Items.{unit_of};
-ghost use Rattle.units.specs.Units.{unitNumber};
-ghost use Rattle.units.specs.code.BySets.{loneUnit};
+ghost use Rattle.units.specs.Units.{unit_number};
+ghost use Rattle.units.specs.code.BySets.{lone_unit};
 
 use catalogue::Unit;
 use tagset::TagSet;
 
 // The unit of a tag that is alone with it, or none.
 fn lone_unit(tag: u64) -> Unit
-    ensures { result ≡ loneUnit tag }
+    ensures { result ≡ lone_unit tag }
 {
     if tag == 2 {
         return Unit::Microsecond;
@@ -57,7 +57,7 @@ pub fn unit_of(tag: u64) -> Unit
 
 // The number by which a unit goes outside of the code.
 pub fn number_of(unit: Unit) -> u64
-    ensures { result ≡ unitNumber unit }
+    ensures { result ≡ unit_number unit }
 {
     match unit {
         Unit::None => 0,

@@ -7,39 +7,39 @@ use lib.ListN.{length}
 use Rattle.refusal.specs.Answer.{given}
 use Rattle.number.specs.Stored.{Bytes}
 use Rattle.tagset.specs.declared.TagSet.{TagSet}
-use Rattle.packet.specs.Said.{header_at, stepSaid}
+use Rattle.packet.specs.Said.{header_at, step_said}
 use Rattle.packet.specs.Verdict.{checked}
-use Rattle.packet.specs.Said.{checkSaid}
+use Rattle.packet.specs.Said.{check_said}
 use Rattle.packet.specs.declared.Header.{Header}
 use Rattle.packet.specs.declared.Step.{Step}
 use Rattle.packet.specs.declared.Checked.{Checked}
-use Rattle.packet.proofs.Walks.{header-lies}
-use Rattle.walker.specs.Steps.{seenBy, partBy, nextBy, beginBy, placeBy, seen_at, part_at, next_at, startPlace}
+use Rattle.packet.proofs.Walks.{header_lies}
+use Rattle.walker.specs.Steps.{seen_by, part_by, next_by, begin_by, place_by, seen_at, part_at, next_at, start_place}
 
 -- what the step at a place said, by the step's own case
-module _ (p : List ℕ) (at : ℕ) (s x : Step) (e : stepSaid s ≡ header_at p at) (f : s ≡ x) where
-  said : header_at p at ≡ stepSaid x
-  said = sym e ∙ ap stepSaid f
+module _ (p : List ℕ) (at : ℕ) (s x : Step) (e : step_said s ≡ header_at p at) (f : s ≡ x) where
+  said : header_at p at ≡ step_said x
+  said = sym e ∙ ap step_said f
 
-  pub seen-said : (K : TagSet) → seenBy K p (stepSaid x) ≡ seen_at K p at
+  pub seen_said : (K : TagSet) → seen_by K p (step_said x) ≡ seen_at K p at
   unfolding seen_at
-  seen-said K = ap (seenBy K p) (sym said)
+  seen_said K = ap (seen_by K p) (sym said)
 
-  pub part-said : partBy p (stepSaid x) ≡ part_at p at
+  pub part_said : part_by p (step_said x) ≡ part_at p at
   unfolding part_at
-  part-said = ap (partBy p) (sym said)
+  part_said = ap (part_by p) (sym said)
 
-  pub next-said : nextBy at (stepSaid x) ≡ next_at p at
+  pub next_said : next_by at (step_said x) ≡ next_at p at
   unfolding next_at
-  next-said = ap (nextBy at) (sym said)
+  next_said = ap (next_by at) (sym said)
 
-  pub item-inside : Bytes p → (h : Header) → stepSaid x ≡ given h → h.place + h.size ≤ length p
-  item-inside by h g = (header-lies p at by h (said ∙ g)).inside
+  pub item_inside : Bytes p → (h : Header) → step_said x ≡ given h → h.place + h.size ≤ length p
+  item_inside by h g = (header_lies p at by h (said ∙ g)).inside
 
-module _ (K : TagSet) (p : List ℕ) (c x : Checked) (e : checkSaid c ≡ checked K p) (f : c ≡ x) where
-  pub begin-said : beginBy (checkSaid x) ≡ beginBy (checked K p)
-  begin-said = ap (λ y. beginBy (checkSaid y)) (sym f) ∙ ap beginBy e
+module _ (K : TagSet) (p : List ℕ) (c x : Checked) (e : check_said c ≡ checked K p) (f : c ≡ x) where
+  pub begin-said : begin_by (check_said x) ≡ begin_by (checked K p)
+  begin-said = ap (λ y. begin_by (check_said y)) (sym f) ∙ ap begin_by e
 
-  pub place-said : placeBy p (checkSaid x) ≡ startPlace K p
-  unfolding startPlace
-  place-said = ap (λ y. placeBy p (checkSaid y)) (sym f) ∙ ap (placeBy p) e
+  pub place_said : place_by p (check_said x) ≡ start_place K p
+  unfolding start_place
+  place_said = ap (λ y. place_by p (check_said y)) (sym f) ∙ ap (place_by p) e

@@ -6,7 +6,7 @@ use denote.Ref.{Bor}
 use Rattle.base.proofs.Kit.{ℕ, ◌<◌, ◌^◌, refl, List, [], ◌∷◌, Ura, named, w64, ent, via, id⊢, Lft, sem, u8, u64, usize, uint_Makes, RefT}
 use Rattle.base.proofs.Kit.{NamedLft, ShrSlice, slice-vals, all_own, own_shut}
 use denote.Struct.Laws as LL
-use Rattle.walker.specs.Passes.{walkerAt}
+use Rattle.walker.specs.Passes.{walker_at}
 use Rattle.base.proofs.Walk.{beside}
 use Rattle.walker.specs.contracts.Walker as T
 use Rattle.walker.proofs.Walker.TheLaws as T'
@@ -16,7 +16,7 @@ module _ {M : Type 1} {𝓤 : Ura M} (𝓛 : Logic 𝓤) (κ : Lft) (s : Bor (Li
   α = record { mir = named 0; lft = κ }
 
   pub held : low < 2 ^ 64 → high < 2 ^ 64 → m < 2 ^ 64 → ent 𝓤 (sem 𝓛 ((ShrSlice (named 0) κ u8).own_val s (shr_slice_vals s)))
-      (sem 𝓛 ((T.the_row α).own_val (walkerAt s low high m) (LL.vals (T.the_type α) (T'.the_laws α) (walkerAt s low high m))))
+      (sem 𝓛 ((T.the_row α).own_val (walker_at s low high m) (LL.vals (T.the_type α) (T'.the_laws α) (walker_at s low high m))))
   held gl gh gm =
       let word = uint_Makes 𝓛 w64 in
       let own = (ShrSlice (named 0) κ u8).own_val s (shr_slice_vals s) in

@@ -17,10 +17,10 @@ use Rattle.base.proofs.Cases.{never}
 use Rattle.base.specs.Determined.{Answered, Read, Says}
 use Rattle.refusal.specs.Answer.{Answer, given, refused}
 use Rattle.refusal.specs.declared.Refusal.{Refusal}
-use Rattle.refusal.proofs.Laws.{refusal-apart}
+use Rattle.refusal.proofs.Laws.{refusal_apart}
 use Rattle.packet.specs.Verdict.{checked}
 use Rattle.packet.specs.declared.Accepted.{Accepted}
-use Rattle.walker.specs.Steps.{beginBy, beginSaid, placeBy, startPlace, foundSeen, foundAt}
+use Rattle.walker.specs.Steps.{begin_by, begin_said, place_by, start_place, found_seen, found_at}
 use Rattle.tagset.specs.Sets.{knowing}
 use Rattle.walker.specs.Passes.{Starts, Passes}
 use Rattle.walker.specs.declared.Begin.{Begin}
@@ -45,61 +45,61 @@ use Rattle.walker.specs.contracts.next as next
 use Rattle.walker.proofs.value_number.Kinds as value-number-kinds
 use Rattle.walker.proofs.value_number.Reads as value-number-reads
 
-pub seen-at-determined : Answered 1 seen-at-kinds.ps seen-at-kinds.r seen-at-reads.Post
-seen-at-determined κs a z z' e e' p q = p ∙ sym q
+pub seen_at_determined : Answered 1 seen-at-kinds.ps seen-at-kinds.r seen-at-reads.Post
+seen_at_determined κs a z z' e e' p q = p ∙ sym q
 
-pub found-at-determined : Answered 1 found-at-kinds.ps found-at-kinds.r found-at-reads.Post
-found-at-determined κs a z z' e e' p q = p ∙ sym q
+pub found_at_determined : Answered 1 found-at-kinds.ps found-at-kinds.r found-at-reads.Post
+found_at_determined κs a z z' e e' p q = p ∙ sym q
 
-pub value-at-determined : Read 1 value-at-kinds.ps value-at-kinds.r value-at-reads.Post (List ℕ) (λ κs z. z.now)
-value-at-determined κs a z z' e e' p q = p ∙ sym q
+pub value_at_determined : Read 1 value-at-kinds.ps value-at-kinds.r value-at-reads.Post (List ℕ) (λ κs z. z.now)
+value_at_determined κs a z z' e e' p q = p ∙ sym q
 
-pub next-at-determined : Answered 1 next-at-kinds.ps next-at-kinds.r next-at-reads.Post
-next-at-determined κs a z z' e e' p q = p ∙ sym q
+pub next_at_determined : Answered 1 next-at-kinds.ps next-at-kinds.r next-at-reads.Post
+next_at_determined κs a z z' e e' p q = p ∙ sym q
 
-pub value-number-determined : Read 1 value-number-kinds.ps value-number-kinds.r value-number-reads.Post (List ℕ) (λ κs z. z.now)
-value-number-determined κs a z z' e e' p q = p ∙ sym q
+pub value_number_determined : Read 1 value-number-kinds.ps value-number-kinds.r value-number-reads.Post (List ℕ) (λ κs z. z.now)
+value_number_determined κs a z z' e e' p q = p ∙ sym q
 
-begin-apart : (a b : Begin) → beginSaid a ≡ beginSaid b → a ≡ b
-begin-apart Good Good e = refl
-begin-apart Good (Refused s) e = never (cc)
-begin-apart (Refused r) Good e = never (cc)
-begin-apart (Refused r) (Refused s) e = ap Refused (refusal-apart r s e)
+begin_apart : (a b : Begin) → begin_said a ≡ begin_said b → a ≡ b
+begin_apart Good Good e = refl
+begin_apart Good (Refused s) e = never (cc)
+begin_apart (Refused r) Good e = never (cc)
+begin_apart (Refused r) (Refused s) e = ap Refused (refusal_apart r s e)
 
-pub opened-determined : Answered 1 opened-kinds.ps opened-kinds.r opened-reads.Post
-opened-determined κs a z z' e e' p q =
-    let answer = begin-apart z.answer z'.answer (p.0 ∙ sym q.0) in
+pub opened_determined : Answered 1 opened-kinds.ps opened-kinds.r opened-reads.Post
+opened_determined κs a z z' e e' p q =
+    let answer = begin_apart z.answer z'.answer (p.0 ∙ sym q.0) in
     let at = p.1 ∙ sym q.1 in
     λ i. record { answer = answer i; at = at i }
 
 -- the contracts of `start` and `next` are `Starts` and `Passes`
 module _ {M : Type 1} {𝓤 : Ura M} (𝓛 : Logic 𝓤) (mem : Memory → SProp 𝓤) (run : Routine → Fun 𝓤) where
-  pub start-says : Says 𝓤 start.ended (start.clauses 𝓛 mem run) (λ κs a z e. Starts a.0 a.1.0 a.1.1.0 z)
-  start-says κs a g z e = refl
+  pub start_says : Says 𝓤 start.ended (start.clauses 𝓛 mem run) (λ κs a z e. Starts a.0 a.1.0 a.1.1.0 z)
+  start_says κs a g z e = refl
 
-  pub next-says : Says 𝓤 next.ended (next.clauses 𝓛 mem run) (λ κs a z e. Passes a.0 z)
-  next-says κs a g z e = refl
+  pub next_says : Says 𝓤 next.ended (next.clauses 𝓛 mem run) (λ κs a z e. Passes a.0 z)
+  next_says κs a g z e = refl
 
-pub start-determined : (s : Bor (List ℕ)) (low high : ℕ) (r r' : Started) → Starts s low high r → Starts s low high r' → r ≡ r'
-start-determined s low high r r' p q =
-    let a = begin-apart r.answer r'.answer (p.answer ∙ sym q.answer) in
+pub start_determined : (s : Bor (List ℕ)) (low high : ℕ) (r r' : Started) → Starts s low high r → Starts s low high r' → r ≡ r'
+start_determined s low high r r' p q =
+    let a = begin_apart r.answer r'.answer (p.answer ∙ sym q.answer) in
     let w = p.walker ∙ sym q.walker in
     λ i. record { answer = a i; walker = w i }
 
-pub next-determined : (w : Walker) (r r' : Passed) → Passes w r → Passes w r'
+pub next_determined : (w : Walker) (r r' : Passed) → Passes w r → Passes w r'
     → (r.found ≡ r'.found) × (r.value.now ≡ r'.value.now) × (r.rest ≡ r'.rest)
-next-determined w r r' p q = (p.found ∙ sym q.found, p.value ∙ sym q.value, p.rest ∙ sym q.rest)
+next_determined w r r' p q = (p.found ∙ sym q.found, p.value ∙ sym q.value, p.rest ∙ sym q.rest)
 
 -- a walker whose start was refused stands at the packet's end, and a step finds no more
 module _ (s : Bor (List ℕ)) (low high : ℕ) (r : Started) (f : Refusal) (p : Starts s low high r) (g : r.answer ≡ Refused f) where
-  at-end : (a : Answer Accepted) → checked (knowing low high) s.now ≡ a → placeBy s.now a ≡ length s.now
-  at-end (given a) e = let b : beginSaid (Refused f) ≡ given tt = sym (ap beginSaid g) ∙ (p.answer ∙ ap beginBy e) in never (cc)
-  at-end (refused n a t) e = refl
+  at_end : (a : Answer Accepted) → checked (knowing low high) s.now ≡ a → place_by s.now a ≡ length s.now
+  at_end (given a) e = let b : begin_said (Refused f) ≡ given tt = sym (ap begin_said g) ∙ (p.answer ∙ ap begin_by e) in never (cc)
+  at_end (refused n a t) e = refl
 
   pub refused_end : r.walker.at ≡ length s.now
-  unfolding startPlace
-  refused_end = ap (λ w. w.at) p.walker ∙ at-end (checked (knowing low high) s.now) refl
+  unfolding start_place
+  refused_end = ap (λ w. w.at) p.walker ∙ at_end (checked (knowing low high) s.now) refl
 
   pub refused_none : (q : Passed) → Passes r.walker q → q.found ≡ NoMore
-  unfolding foundAt
-  refused_none q h = h.found ∙ ap foundSeen (end_none _ _ _ (omega (arith, refused_end, ap length (ap (λ w. w.packet.now) p.walker))))
+  unfolding found_at
+  refused_none q h = h.found ∙ ap found_seen (end_none _ _ _ (omega (arith, refused_end, ap length (ap (λ w. w.packet.now) p.walker))))

@@ -6,8 +6,8 @@ use Rattle.number.specs.Stored.{value_of}
 use Rattle.tagset.specs.Sets.{holds}
 use Rattle.tagset.specs.declared.TagSet.{TagSet}
 use Rattle.catalogue.specs.declared.Shape.{Shape}
-use Rattle.rows.specs.Meaning.{Meaning, shapeFor, seenAs, kind_of, code_of, saidBy}
-use Rattle.rows.specs.Taken.{contentOf}
+use Rattle.rows.specs.Meaning.{Meaning, shape_for, seen_as, kind_of, code_of, said_by}
+use Rattle.rows.specs.Taken.{content_of}
 use Rattle.rows.specs.declared.Part.{Part}
 use Rattle.rows.specs.declared.Row.{Row}
 use Rattle.packet.specs.Said.{header_at}
@@ -22,78 +22,78 @@ use Rattle.walker.specs.declared.Found.TheVariants.{Item, NoMore}
 use Rattle.walker.specs.declared.Begin.{Begin}
 use Rattle.walker.specs.declared.Begin.TheVariants as begin
 
-abbrev pub headerValue : List ℕ → Header → List ℕ
-headerValue p h = take h.size (drop h.place p)
+abbrev pub header_value : List ℕ → Header → List ℕ
+header_value p h = take h.size (drop h.place p)
 
-abbrev pub headerPart : Header → Part
-headerPart h = record { place = h.place; length = h.size }
+abbrev pub header_part : Header → Part
+header_part h = record { place = h.place; length = h.size }
 
 -- what a receiver sees in the item with a header: of more than eight bytes of a number the last eight count
-abbrev pub meaningIn : TagSet → List ℕ → Header → Meaning Part
-meaningIn K p h = seenAs (shapeFor (holds K) h.tag) (value_of (headerValue p h) % 2 ^ 64) h.size (headerPart h)
+abbrev pub meaning_in : TagSet → List ℕ → Header → Meaning Part
+meaning_in K p h = seen_as (shape_for (holds K) h.tag) (value_of (header_value p h) % 2 ^ 64) h.size (header_part h)
 
 -- the item where it stands: "tag; kind ...; the stored code ...", and its value's place and length
-unfoldable pub seenIn : TagSet → List ℕ → Header → Standing
-seenIn K p h =
+unfoldable pub seen_in : TagSet → List ℕ → Header → Standing
+seen_in K p h =
     record {
       tag = h.tag;
-      kind = kind_of (meaningIn K p h);
-      code = code_of (meaningIn K p h);
+      kind = kind_of (meaning_in K p h);
+      code = code_of (meaning_in K p h);
       place = h.place;
       length = h.size;
       next = h.place + h.size;
     }
 
 -- the code by the shape, the value as a number and its length
-abbrev pub codeFor : Shape → ℕ → ℕ → ℕ
-codeFor shape code size = code_of (seenAs {A = Unit {0}} shape code size tt)
+abbrev pub code_for : Shape → ℕ → ℕ → ℕ
+code_for shape code size = code_of (seen_as {A = Unit {0}} shape code size tt)
 
 -- "its tag beside one of four kinds of content", five since W-204
-unfoldable pub rowSeen : Standing → Row
-rowSeen s = record { tag = s.tag; content = contentOf (saidBy s.kind s.code s.length (record { place = s.place; length = s.length })) }
+unfoldable pub row_seen : Standing → Row
+row_seen s = record { tag = s.tag; content = content_of (said_by s.kind s.code s.length (record { place = s.place; length = s.length })) }
 
 -- the item at a place, where it stands and as a row; its value, and the place after it; where there is none, no bytes and the same place
-abbrev pub seenBy : TagSet → List ℕ → Answer Header → Seen
-seenBy K p = or_else seen.NoMore (λ h. seen.Item (seenIn K p h))
+abbrev pub seen_by : TagSet → List ℕ → Answer Header → Seen
+seen_by K p = or_else seen.NoMore (λ h. seen.Item (seen_in K p h))
 
-abbrev pub foundSeen : Seen → Found
-foundSeen (seen.Item s) = Item (rowSeen s)
-foundSeen seen.NoMore = NoMore
+abbrev pub found_seen : Seen → Found
+found_seen (seen.Item s) = Item (row_seen s)
+found_seen seen.NoMore = NoMore
 
-abbrev pub partBy : List ℕ → Answer Header → List ℕ
-partBy p = or_else [] (headerValue p)
+abbrev pub part_by : List ℕ → Answer Header → List ℕ
+part_by p = or_else [] (header_value p)
 
-abbrev pub nextBy : ℕ → Answer Header → ℕ
-nextBy at = or_else at (λ h. h.place + h.size)
+abbrev pub next_by : ℕ → Answer Header → ℕ
+next_by at = or_else at (λ h. h.place + h.size)
 
 unfoldable pub seen_at : TagSet → List ℕ → ℕ → Seen
-seen_at K p at = seenBy K p (header_at p at)
+seen_at K p at = seen_by K p (header_at p at)
 
-unfoldable pub foundAt : TagSet → List ℕ → ℕ → Found
-foundAt K p at = foundSeen (seen_at K p at)
+unfoldable pub found_at : TagSet → List ℕ → ℕ → Found
+found_at K p at = found_seen (seen_at K p at)
 
 unfoldable pub part_at : List ℕ → ℕ → List ℕ
-part_at p at = partBy p (header_at p at)
+part_at p at = part_by p (header_at p at)
 
 unfoldable pub next_at : List ℕ → ℕ → ℕ
-next_at p at = nextBy at (header_at p at)
+next_at p at = next_by at (header_at p at)
 
 -- "Starting the walker gives the reader's refusals but for 2": good or the refusal, and where the walk begins; after a refusal that is
 -- the packet's end, where there are no more
-abbrev pub beginBy : Answer Accepted → Answer (Unit {0})
-beginBy = map (λ _. tt)
+abbrev pub begin_by : Answer Accepted → Answer (Unit {0})
+begin_by = map (λ _. tt)
 
-abbrev pub beginSaid : Begin → Answer (Unit {0})
-beginSaid begin.Good = given tt
-beginSaid (begin.Refused r) = refusal r
+abbrev pub begin_said : Begin → Answer (Unit {0})
+begin_said begin.Good = given tt
+begin_said (begin.Refused r) = refusal r
 
-abbrev pub placeBy : List ℕ → Answer Accepted → ℕ
-placeBy p = or_else (length p) (λ a. a.from)
+abbrev pub place_by : List ℕ → Answer Accepted → ℕ
+place_by p = or_else (length p) (λ a. a.from)
 
-unfoldable pub startPlace : TagSet → List ℕ → ℕ
-startPlace K p = placeBy p (checked K p)
+unfoldable pub start_place : TagSet → List ℕ → ℕ
+start_place K p = place_by p (checked K p)
 
 -- where the item numbered i starts, walked to from the first
-unfoldable pub placeNumber : TagSet → List ℕ → ℕ → ℕ
-placeNumber K p zero = startPlace K p
-placeNumber K p (suc i) = next_at p (placeNumber K p i)
+unfoldable pub place_number : TagSet → List ℕ → ℕ → ℕ
+place_number K p zero = start_place K p
+place_number K p (suc i) = next_at p (place_number K p i)

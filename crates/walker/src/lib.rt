@@ -4,12 +4,12 @@
 ghost use Rattle.std.specs.Prelude.{◌≡◌, ◌+◌, ◌%◌, ◌^◌, ◌≤◌, length};
 ghost use Rattle.number.specs.Stored.{value_of};
 ghost use Rattle.tagset.specs.Sets.{holds, knowing};
-ghost use Rattle.catalogue.specs.Shapes.{isMarked, unfixed};
+ghost use Rattle.catalogue.specs.Shapes.{is_marked, unfixed};
 ghost use Rattle.catalogue.specs.declared.Shape.TheVariants.{Number};
-ghost use Rattle.rows.specs.Meaning.{shapeFor};
+ghost use Rattle.rows.specs.Meaning.{shape_for};
 ghost use Rattle.packet.specs.Verdict.{checked};
 ghost use Rattle.walker.specs.Passes.{Starts, Passes};
-ghost use Rattle.walker.specs.Steps.{codeFor, seenIn, rowSeen, seen_at, foundAt, part_at, next_at, beginBy, beginSaid, startPlace, placeNumber};
+ghost use Rattle.walker.specs.Steps.{code_for, seen_in, row_seen, seen_at, found_at, part_at, next_at, begin_by, begin_said, start_place, place_number};
 
 use catalogue::{Found as Listed, Item, Shape, Sign};
 use packet::{Checked, Header, Step};
@@ -58,8 +58,8 @@ pub struct Begun {
 
 // Begins a walk: the packet is checked as the reader checks it.
 pub fn opened(packet: &[u8], low: u64, high: u64) -> Begun
-    ensures { (beginSaid result.answer ≡ beginBy (checked (knowing low high) packet.now))
-        × (result.at ≡ startPlace (knowing low high) packet.now) }
+    ensures { (begin_said result.answer ≡ begin_by (checked (knowing low high) packet.now))
+        × (result.at ≡ start_place (knowing low high) packet.now) }
 {
     match packet::check(packet, TagSet { low, high }) {
         Checked::Accepted(accepted) => Begun {
@@ -74,7 +74,7 @@ pub fn opened(packet: &[u8], low: u64, high: u64) -> Begun
 }
 
 fn number_shape(width: usize, sign: Sign) -> Shape
-    ensures { result ≡ Number width width (isMarked sign) }
+    ensures { result ≡ Number width width (is_marked sign) }
 {
     match sign {
         Sign::Marked => Shape::Number {
@@ -111,7 +111,7 @@ fn unfixed_shape(item: Item) -> Shape
 
 // The shape that a receiver gives a tag.
 fn shape_of(known: TagSet, tag: u64) -> Shape
-    ensures { result ≡ shapeFor (holds known) tag }
+    ensures { result ≡ shape_for (holds known) tag }
 {
     if tagset::has(known, tag) {
         return match items::item_of(tag) {
@@ -131,7 +131,7 @@ fn shape_of(known: TagSet, tag: u64) -> Shape
 
 // The code of a number, that of no bytes being 0; a text or carried value is not looked into.
 fn code_of(shape: Shape, value: &[u8]) -> u64
-    ensures { result ≡ codeFor shape (value_of value.now % 2 ^ 64) (length value.now) }
+    ensures { result ≡ code_for shape (value_of value.now % 2 ^ 64) (length value.now) }
 {
     match shape {
         Shape::Text => 0,
@@ -146,7 +146,7 @@ fn code_of(shape: Shape, value: &[u8]) -> u64
 
 fn standing_in(packet: &[u8], known: TagSet, item: Header) -> Standing
     requires { item.place + item.size ≤ length packet.now }
-    ensures { result ≡ seenIn known packet.now item }
+    ensures { result ≡ seen_in known packet.now item }
 {
     let place = item.place;
     let next = place + item.size;
@@ -173,7 +173,7 @@ pub fn seen_at(packet: &[u8], at: usize, low: u64, high: u64) -> Seen
 }
 
 fn row_of(seen: Standing) -> Row
-    ensures { result ≡ rowSeen seen }
+    ensures { result ≡ row_seen seen }
 {
     let part = Part {
         place: seen.place,
@@ -187,7 +187,7 @@ fn row_of(seen: Standing) -> Row
 
 // The item at a place, as a row taken out singly.
 pub fn found_at(packet: &[u8], at: usize, low: u64, high: u64) -> Found
-    ensures { result ≡ foundAt (knowing low high) packet.now at }
+    ensures { result ≡ found_at (knowing low high) packet.now at }
 {
     match seen_at(packet, at, low, high) {
         Seen::Item(seen) => Found::Item(row_of(seen)),
@@ -284,7 +284,7 @@ pub fn next<'a>(w: Walker<'a>) -> Passed<'a>
 
 // The value of the item numbered k, counted from 0 and walked to one by one: a bridge with plain parameters.
 pub fn value_number<'a>(packet: &'a [u8], low: u64, high: u64, k: usize) -> &'a [u8]
-    ensures { result.now ≡ part_at packet.now (placeNumber (knowing low high) packet.now k) }
+    ensures { result.now ≡ part_at packet.now (place_number (knowing low high) packet.now k) }
 {
     let mut w = start(packet, low, high).walker;
     let mut i = 0;

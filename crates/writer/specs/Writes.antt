@@ -4,7 +4,7 @@ use Rattle.refusal.specs.Answer.{Answer, given, refused, refusal, map, then, or_
 use Rattle.tagset.specs.declared.TagSet.{TagSet}
 use Rattle.packet.specs.Pieces.{Piece}
 use Rattle.packet.specs.Encode.{encode}
-use Rattle.outgoing.specs.Outgoing.{outgoingWith, outgoing}
+use Rattle.outgoing.specs.Outgoing.{outgoing_with, outgoing}
 use Rattle.outgoing.specs.declared.Handed.{Handed}
 use Rattle.writer.specs.declared.Written.{Written}
 use Rattle.writer.specs.declared.Writing.{Writing}
@@ -14,41 +14,41 @@ use Rattle.writer.specs.declared.Writing.TheVariants.{Packet, Refused}
 abbrev pub roomy : ℕ → List Piece → Answer (List Piece)
 roomy room cs = cond (ltb room (length (encode cs))) (refused 18 0 0) (given cs)
 
-unfoldable pub writtenWith : TagSet → Handed → ℕ → List ℕ → List ℕ → ℕ → Answer (List Piece)
-writtenWith K h count words b room = then (outgoingWith K h count words b) (roomy room)
+unfoldable pub written_with : TagSet → Handed → ℕ → List ℕ → List ℕ → ℕ → Answer (List Piece)
+written_with K h count words b room = then (outgoing_with K h count words b) (roomy room)
 
 -- the number of bytes
 abbrev pub written_by : List Piece → Written
 written_by cs = record { size = length (encode cs) }
 
 -- "Bytes after the packet in the output stay."
-abbrev pub outputBy : List ℕ → Answer (List Piece) → List ℕ
-outputBy o = or_else o (λ cs. encode cs ++ drop (length (encode cs)) o)
+abbrev pub output_by : List ℕ → Answer (List Piece) → List ℕ
+output_by o = or_else o (λ cs. encode cs ++ drop (length (encode cs)) o)
 
-unfoldable pub writeAnswerWith : TagSet → Handed → ℕ → List ℕ → List ℕ → List ℕ → Answer Written
-writeAnswerWith K h count words b o = map written_by (writtenWith K h count words b (length o))
+unfoldable pub write_answer_with : TagSet → Handed → ℕ → List ℕ → List ℕ → List ℕ → Answer Written
+write_answer_with K h count words b o = map written_by (written_with K h count words b (length o))
 
-unfoldable pub writeOutputWith : TagSet → Handed → ℕ → List ℕ → List ℕ → List ℕ → List ℕ
-writeOutputWith K h count words b o = outputBy o (writtenWith K h count words b (length o))
+unfoldable pub write_output_with : TagSet → Handed → ℕ → List ℕ → List ℕ → List ℕ → List ℕ
+write_output_with K h count words b o = output_by o (written_with K h count words b (length o))
 
-abbrev pub writeSaid : Writing → Answer Written
-writeSaid (Packet w) = given w
-writeSaid (Refused r) = refusal r
+abbrev pub write_said : Writing → Answer Written
+write_said (Packet w) = given w
+write_said (Refused r) = refusal r
 
 pub record WritesWith (K : TagSet) (h : Handed) (count : ℕ) (words b o : List ℕ) (r : Writing) (o' : List ℕ) : Type 0 where
-  pub answer : writeSaid r ≡ writeAnswerWith K h count words b o
-  pub output : o' ≡ writeOutputWith K h count words b o
+  pub answer : write_said r ≡ write_answer_with K h count words b o
+  pub output : o' ≡ write_output_with K h count words b o
 
 -- the same with nothing handed
 unfoldable pub written : TagSet → ℕ → List ℕ → List ℕ → ℕ → Answer (List Piece)
 written K count words b room = then (outgoing K count words b) (roomy room)
 
-unfoldable pub writeAnswer : TagSet → ℕ → List ℕ → List ℕ → List ℕ → Answer Written
-writeAnswer K count words b o = map written_by (written K count words b (length o))
+unfoldable pub write_answer : TagSet → ℕ → List ℕ → List ℕ → List ℕ → Answer Written
+write_answer K count words b o = map written_by (written K count words b (length o))
 
-unfoldable pub writeOutput : TagSet → ℕ → List ℕ → List ℕ → List ℕ → List ℕ
-writeOutput K count words b o = outputBy o (written K count words b (length o))
+unfoldable pub write_output : TagSet → ℕ → List ℕ → List ℕ → List ℕ → List ℕ
+write_output K count words b o = output_by o (written K count words b (length o))
 
 pub record Writes (K : TagSet) (count : ℕ) (words b o : List ℕ) (r : Writing) (o' : List ℕ) : Type 0 where
-  pub answer : writeSaid r ≡ writeAnswer K count words b o
-  pub output : o' ≡ writeOutput K count words b o
+  pub answer : write_said r ≡ write_answer K count words b o
+  pub output : o' ≡ write_output K count words b o

@@ -3,13 +3,13 @@
 ghost use Rattle.std.specs.Prelude.{◌+◌, ◌<◌, ◌≤◌, ◌++◌, length, take, drop};
 ghost use Rattle.number.specs.Stored.{bytes_of};
 ghost use Rattle.base.specs.Putting.{Room, Wrote};
-ghost use Rattle.ber.specs.Written.{tagBytes, lengthBytes};
-ghost use Rattle.rows.specs.Taken.{partLength};
+ghost use Rattle.ber.specs.Written.{tag_bytes, length_bytes};
+ghost use Rattle.rows.specs.Taken.{part_length};
 ghost use Rattle.packet.specs.Structure.{key};
-ghost use Rattle.packet.specs.Encode.{itemBytes, encode};
+ghost use Rattle.packet.specs.Encode.{item_bytes, encode};
 ghost use Rattle.outgoing.specs.declared.Handed.TheVariants.{Words};
 ghost use Rattle.writer.specs.Writes.{WritesWith, Writes};
-ghost use Rattle.writer.specs.code.Putting.{valueSaid, pieceSaid, tableBytes, tablePieces, CanPut, Rows, Ready};
+ghost use Rattle.writer.specs.code.Putting.{value_said, piece_said, table_bytes, table_pieces, CanPut, Rows, Ready};
 
 use outgoing::{Handed, Outgoing};
 use refusal::{Reason, Refusal};
@@ -39,8 +39,8 @@ fn copy(out: &mut [u8], at: usize, buffer: &[u8], place: usize, size: usize)
 
 // A row's value, by its kind: the bytes of its code, or those that it points at.
 fn put_value(out: &mut [u8], at: usize, row: RowWords, buffer: &[u8])
-    requires { CanPut buffer.now row × (at + partLength row.part ≤ length out.old) }
-    ensures { Wrote out.old at (valueSaid buffer.now row) (at + partLength row.part) out.new }
+    requires { CanPut buffer.now row × (at + part_length row.part ≤ length out.old) }
+    ensures { Wrote out.old at (value_said buffer.now row) (at + part_length row.part) out.new }
 {
     let part = row.part;
     let place = (part / 65536) as usize;
@@ -54,8 +54,8 @@ fn put_value(out: &mut [u8], at: usize, row: RowWords, buffer: &[u8])
 
 // What stands before a value, and the place after it: most have a tag and a length of one byte each.
 fn put_header(out: &mut [u8], at: usize, tag: u64, size: u64) -> usize
-    requires { (0 < tag) × Room out.old at (tagBytes tag ++ lengthBytes size) }
-    ensures { Wrote out.old at (tagBytes tag ++ lengthBytes size) result out.new }
+    requires { (0 < tag) × Room out.old at (tag_bytes tag ++ length_bytes size) }
+    ensures { Wrote out.old at (tag_bytes tag ++ length_bytes size) result out.new }
 {
     if tag < 128 {
         if size < 128 {
@@ -70,8 +70,8 @@ fn put_header(out: &mut [u8], at: usize, tag: u64, size: u64) -> usize
 
 // A row's item, and the place after it.
 fn put_item(out: &mut [u8], at: usize, row: RowWords, buffer: &[u8]) -> usize
-    requires { CanPut buffer.now row × Room out.old at (itemBytes (pieceSaid buffer.now row)) }
-    ensures { Wrote out.old at (itemBytes (pieceSaid buffer.now row)) result out.new }
+    requires { CanPut buffer.now row × Room out.old at (item_bytes (piece_said buffer.now row)) }
+    ensures { Wrote out.old at (item_bytes (piece_said buffer.now row)) result out.new }
 {
     let size = row.part % 65536;
     let place = put_header(out, at, row.tag, size);
@@ -81,8 +81,8 @@ fn put_item(out: &mut [u8], at: usize, row: RowWords, buffer: &[u8]) -> usize
 
 // All items, one after another, and the place after them.
 fn put_rows(out: &mut [u8], from: usize, count: usize, words: &[u64], buffer: &[u8]) -> usize
-    requires { Rows buffer.now count words.now × Room out.old from (tableBytes buffer.now count words.now) }
-    ensures { Wrote out.old from (tableBytes buffer.now count words.now) result out.new }
+    requires { Rows buffer.now count words.now × Room out.old from (table_bytes buffer.now count words.now) }
+    ensures { Wrote out.old from (table_bytes buffer.now count words.now) result out.new }
 {
     let mut at = from;
     let mut n: usize = 0;
@@ -96,8 +96,8 @@ fn put_rows(out: &mut [u8], from: usize, count: usize, words: &[u64], buffer: &[
 
 // Key and length, and the place after them.
 fn put_head(out: &mut [u8], items: usize) -> usize
-    requires { Room out.old 0 (key ++ lengthBytes items) }
-    ensures { Wrote out.old 0 (key ++ lengthBytes items) result out.new }
+    requires { Room out.old 0 (key ++ length_bytes items) }
+    ensures { Wrote out.old 0 (key ++ length_bytes items) result out.new }
 {
     put_number(out, 0, 8, 0x060E_2B34_020B_0101);
     put_number(out, 8, 8, 0x0E01_0301_0100_0000);
@@ -107,7 +107,7 @@ fn put_head(out: &mut [u8], items: usize) -> usize
 // The packet: what stands before the items, the items, and the checksum of all before its value.
 fn put_packet(out: &mut [u8], size: usize, items: usize, count: usize, words: &[u64], buffer: &[u8])
     requires { Ready buffer.now count words.now size items (length out.old) }
-    ensures { Wrote out.old 0 (encode (tablePieces buffer.now count words.now)) size out.new }
+    ensures { Wrote out.old 0 (encode (table_pieces buffer.now count words.now)) size out.new }
 {
     let from = put_head(out, items);
     put_rows(out, from, count, words, buffer);

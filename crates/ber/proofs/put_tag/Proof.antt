@@ -5,8 +5,8 @@ use Rattle.ber.proofs.Forms.{tag_one}
 use Rattle.ber.proofs.put_tag.Statement.{statement}
 use Rattle.ber.proofs.put_tag.Tie as tie
 
-put-short-requires : tie.Need-put-short-requires
-put-short-requires c κs = search rules
+put_short_requires : tie.Need-put-short-requires
+put_short_requires c κs = search rules
 
 same_length : tie.Need-same-length
 same_length c = search rules
@@ -16,26 +16,26 @@ returns c =
     let tested = c.before.before.before.before in
     rw (tag_one _ tested.before.if1.true tested.if2.true) c.before.before.put-short.ensures
 
-tag-form-requires : tie.Need-tag-form-requires
-tag-form-requires c κs = search rules
+tag_form_requires : tie.Need-tag-form-requires
+tag_form_requires c κs = search rules
 
-put-form-requires : tie.Need-put-form-requires
-put-form-requires c κs = search rules
+put_form_requires : tie.Need-put-form-requires
+put_form_requires c κs = search rules
 
-same-length-2 : tie.Need-same-length-2
-same-length-2 c = search rules
+same_length_2 : tie.Need-same-length-2
+same_length_2 c = search rules
 
-returns-2 : tie.Need-returns-2
-returns-2 c = rw (← c.before.before.before.tag-form.ensures) c.before.before.put-form.ensures
+returns_2 : tie.Need-returns-2
+returns_2 c = rw (← c.before.before.before.tag-form.ensures) c.before.before.put-form.ensures
 
-pub put-tag-spec : {M : Type 1} → statement M
-put-tag-spec =
+pub put_tag_spec : {M : Type 1} → statement M
+put_tag_spec =
     tie.close
     (tie.spec
-    put-short-requires
+    put_short_requires
     same_length
     returns
-    tag-form-requires
-    put-form-requires
-    same-length-2
-    returns-2)
+    tag_form_requires
+    put_form_requires
+    same_length_2
+    returns_2)

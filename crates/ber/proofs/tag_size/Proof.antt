@@ -3,15 +3,15 @@
 use borrow.Author.Rules.{rules}
 use mathlib.Core.Path.{sym, ◌∙◌, ap}
 use lib.ListN.{length}
-use Rattle.number.proofs.Laws.{length-bytesOf}
+use Rattle.number.proofs.Laws.{length_bytes_of}
 use Rattle.ber.proofs.tag_size.Statement.{statement}
 use Rattle.ber.proofs.tag_size.Tie as tie
 
-tag-form-requires : tie.Need-tag-form-requires
-tag-form-requires c κs = search rules
+tag_form_requires : tie.Need-tag-form-requires
+tag_form_requires c κs = search rules
 
 returns : tie.Need-returns
-returns c = sym (length-bytesOf _ _) ∙ ap length c.tag-form.ensures
+returns c = sym (length_bytes_of _ _) ∙ ap length c.tag-form.ensures
 
-pub tag-size-spec : {M : Type 1} → statement M
-tag-size-spec = tie.close (tie.spec tag-form-requires returns)
+pub tag_size_spec : {M : Type 1} → statement M
+tag_size_spec = tie.close (tie.spec tag_form_requires returns)

@@ -7,8 +7,8 @@ use Rattle.catalogue.proofs.is_under.Tie as tie
 returns : tie.Need-returns
 returns c = search cases
 
-returns-2 : tie.Need-returns-2
-returns-2 c = search cases
+returns_2 : tie.Need-returns-2
+returns_2 c = search cases
 
-pub is-under-spec : {M : Type 1} → statement M
-is-under-spec = tie.close (tie.spec returns returns-2)
+pub is_under_spec : {M : Type 1} → statement M
+is_under_spec = tie.close (tie.spec returns returns_2)

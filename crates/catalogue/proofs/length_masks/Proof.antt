@@ -1,16 +1,16 @@
 -- `catalogue::length_masks` meets its contract.
 -- Assumes nothing.
 use mathlib.Core.Path.{refl}
-use Rattle.catalogue.specs.Items.{groups, member, itemIn, itemOf}
-use Rattle.catalogue.specs.Extended.{isExtended}
+use Rattle.catalogue.specs.Items.{groups, member, item_in, item_of}
+use Rattle.catalogue.specs.Extended.{is_extended}
 use Rattle.catalogue.specs.Shapes.{shape_of}
-use Rattle.catalogue.specs.code.Column.{columnFrom, maskColumn}
+use Rattle.catalogue.specs.code.Column.{column_from, mask_column}
 use Rattle.catalogue.proofs.length_masks.Statement.{statement}
 use Rattle.catalogue.proofs.length_masks.Tie as tie
 
 returns : tie.Need-returns
-unfolding groups member itemIn itemOf isExtended shape_of columnFrom maskColumn
+unfolding groups member item_in item_of is_extended shape_of column_from mask_column
 returns c = refl
 
-pub length-masks-spec : {M : Type 1} → statement M
-length-masks-spec = tie.close (tie.spec returns)
+pub length_masks_spec : {M : Type 1} → statement M
+length_masks_spec = tie.close (tie.spec returns)

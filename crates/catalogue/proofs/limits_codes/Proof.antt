@@ -1,25 +1,25 @@
 -- `catalogue::limits_codes` meets its contract.
 -- Assumes nothing.
 use Rattle.base.proofs.Cases.{cases}
-use Rattle.catalogue.specs.Shapes.{codesLimited}
+use Rattle.catalogue.specs.Shapes.{codes_limited}
 use borrow.Author.Rules.{rules}
 use Rattle.catalogue.proofs.limits_codes.Statement.{statement}
 use Rattle.catalogue.proofs.limits_codes.Tie as tie
 
 returns : tie.Need-returns
-unfolding codesLimited
+unfolding codes_limited
 returns c = search cases
 
-returns-2 : tie.Need-returns-2
-unfolding codesLimited
-returns-2 c = search cases
+returns_2 : tie.Need-returns-2
+unfolding codes_limited
+returns_2 c = search cases
 
-is-extended-requires : tie.Need-is-extended-requires
-is-extended-requires c κs = search rules
+is_extended_requires : tie.Need-is-extended-requires
+is_extended_requires c κs = search rules
 
-returns-3 : tie.Need-returns-3
-unfolding codesLimited
-returns-3 c = search cases
+returns_3 : tie.Need-returns-3
+unfolding codes_limited
+returns_3 c = search cases
 
-pub limits-codes-spec : {M : Type 1} → statement M
-limits-codes-spec = tie.close (tie.spec returns returns-2 is-extended-requires returns-3)
+pub limits_codes_spec : {M : Type 1} → statement M
+limits_codes_spec = tie.close (tie.spec returns returns_2 is_extended_requires returns_3)

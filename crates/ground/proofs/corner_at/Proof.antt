@@ -3,40 +3,40 @@
 use mathlib.Core.Path.{ap, ◌∙◌}
 use borrow.Author.Rules.{rules}
 use Rattle.refusal.specs.Answer.{map}
-use Rattle.ground.specs.Ground.{onEarth, cornerIn}
-use Rattle.ground.proofs.Located.{refused-so, placed-so, held-so}
+use Rattle.ground.specs.Ground.{on_earth, corner_in}
+use Rattle.ground.proofs.Located.{refused_so, placed_so, held_so}
 use Rattle.ground.proofs.corner_at.Statement.{statement}
 use Rattle.ground.proofs.corner_at.Tie as tie
 
-locate-requires : tie.Need-locate-requires
-locate-requires c κs = search rules
+locate_requires : tie.Need-locate-requires
+locate_requires c κs = search rules
 
-enum-known-answer : tie.Need-enum-known-answer
-enum-known-answer c = search rules
+enum_known_answer : tie.Need-enum-known-answer
+enum_known_answer c = search rules
 
 enum_told : tie.Need-enum-told
 enum_told c = search rules
 
-plain-corner-requires : tie.Need-plain-corner-requires
-plain-corner-requires c κs =
-    let placed = placed-so _ _ _ c.before.before.before.before.locate.ensures _ c.before.before.enum_told.given.1 in
+plain_corner_requires : tie.Need-plain-corner-requires
+plain_corner_requires c κs =
+    let placed = placed_so _ _ _ c.before.before.before.before.locate.ensures _ c.before.before.enum_told.given.1 in
     placed
 
-on-earth-requires : tie.Need-on-earth-requires
-on-earth-requires c κs = search rules
+on_earth_requires : tie.Need-on-earth-requires
+on_earth_requires c κs = search rules
 
 returns : tie.Need-returns
-returns c = refused-so _ _ _ c.before.before.before.locate.ensures (cornerIn _) _ c.before.answer.given.1
+returns c = refused_so _ _ _ c.before.before.before.locate.ensures (corner_in _) _ c.before.answer.given.1
 
-returns-2 : tie.Need-returns-2
-unfolding cornerIn
-returns-2 c =
+returns_2 : tie.Need-returns-2
+unfolding corner_in
+returns_2 c =
     let k = c.before.before.before.before in
     c.on-earth.ensures
-    ∙ (ap (map onEarth) c.before.plain-corner.ensures
-    ∙ held-so (cornerIn _) _ _ _ (placed-so _ _ _ k.before.before.locate.ensures _ k.enum_told.given.1))
+    ∙ (ap (map on_earth) c.before.plain-corner.ensures
+    ∙ held_so (corner_in _) _ _ _ (placed_so _ _ _ k.before.before.locate.ensures _ k.enum_told.given.1))
 
-pub corner-at-spec : {M : Type 1} → statement M
-corner-at-spec =
+pub corner_at_spec : {M : Type 1} → statement M
+corner_at_spec =
     tie.close
-    (tie.spec locate-requires enum-known-answer enum_told plain-corner-requires on-earth-requires returns returns-2)
+    (tie.spec locate_requires enum_known_answer enum_told plain_corner_requires on_earth_requires returns returns_2)

@@ -15,32 +15,32 @@ use Rattle.ground.proofs.sum.Tie as tie
 enum_told : tie.Need-enum-told
 enum_told c = search rules
 
-enum-told-2 : tie.Need-enum-told-2
-enum-told-2 c = search rules
+enum_told_2 : tie.Need-enum-told-2
+enum_told_2 c = search rules
 
-enum-told-3 : tie.Need-enum-told-3
-enum-told-3 c = search rules
+enum_told_3 : tie.Need-enum-told-3
+enum_told_3 c = search rules
 
-enum-told-4 : tie.Need-enum-told-4
-enum-told-4 c = search rules
+enum_told_4 : tie.Need-enum-told-4
+enum_told_4 c = search rules
 
-enum-told-5 : tie.Need-enum-told-5
-enum-told-5 c = search rules
+enum_told_5 : tie.Need-enum-told-5
+enum_told_5 c = search rules
 
-enum-known-centre : tie.Need-enum-known-centre
-enum-known-centre c = search rules
+enum_known_centre : tie.Need-enum-known-centre
+enum_known_centre c = search rules
 
-enum-told-6 : tie.Need-enum-told-6
-enum-told-6 c = search rules
+enum_told_6 : tie.Need-enum-told-6
+enum_told_6 c = search rules
 
-enum-told-7 : tie.Need-enum-told-7
-enum-told-7 c = search rules
+enum_told_7 : tie.Need-enum-told-7
+enum_told_7 c = search rules
 
-enum-known-offset : tie.Need-enum-known-offset
-enum-known-offset c = search rules
+enum_known_offset : tie.Need-enum-known-offset
+enum_known_offset c = search rules
 
-add-t8 : tie.Need-overflow-add-t8
-add-t8 c =
+add_t8 : tie.Need-overflow-add-t8
+add_t8 c =
     let from : SFits w64 c.before.before.before.before.centre.given.0.0 = search rules in
     let by : SFits w64 c.before.offset.given.0.0 = search rules in
     rw (to_z-of_z from, to_z-of_z by)
@@ -50,23 +50,23 @@ add-t8 c =
 returns : tie.Need-returns
 returns c = search rules
 
-returns-2 : tie.Need-returns-2
-returns-2 c = search rules
+returns_2 : tie.Need-returns-2
+returns_2 c = search rules
 
-returns-3 : tie.Need-returns-3
-returns-3 c = search rules
+returns_3 : tie.Need-returns-3
+returns_3 c = search rules
 
-returns-4 : tie.Need-returns-4
-returns-4 c = search rules
+returns_4 : tie.Need-returns-4
+returns_4 c = search rules
 
-returns-5 : tie.Need-returns-5
-returns-5 c = search rules
+returns_5 : tie.Need-returns-5
+returns_5 c = search rules
 
-returns-6 : tie.Need-returns-6
-returns-6 c = search rules
+returns_6 : tie.Need-returns-6
+returns_6 c = search rules
 
-returns-7 : tie.Need-returns-7
-returns-7 c =
+returns_7 : tie.Need-returns-7
+returns_7 c =
     let from : SFits w64 c.before.before.before.before.centre.given.0.0 = search rules in
     let by : SFits w64 c.before.offset.given.0.0 = search rules in
     ap At (ap₂ (λ a b. to_z w64 (of_z w64 (a +ℤ b))) (to_z-of_z from) (to_z-of_z by)
@@ -75,24 +75,24 @@ returns-7 c =
     c.before.before.before.before.before.before.requires.0 c.before.before.before.before.before.before.requires.1))
     ∙ ap₂ sum_of (sym c.before.before.before.before.centre.given.1) (sym c.before.offset.given.1)
 
-pub sum-spec : {M : Type 1} → statement M
-sum-spec =
+pub sum_spec : {M : Type 1} → statement M
+sum_spec =
     tie.close
     (tie.spec
     enum_told
-    enum-told-2
-    enum-told-3
-    enum-told-4
-    enum-told-5
-    enum-known-centre
-    enum-told-6
-    enum-told-7
-    enum-known-offset
-    add-t8
+    enum_told_2
+    enum_told_3
+    enum_told_4
+    enum_told_5
+    enum_known_centre
+    enum_told_6
+    enum_told_7
+    enum_known_offset
+    add_t8
     returns
-    returns-2
-    returns-3
-    returns-4
-    returns-5
-    returns-6
-    returns-7)
+    returns_2
+    returns_3
+    returns_4
+    returns_5
+    returns_6
+    returns_7)

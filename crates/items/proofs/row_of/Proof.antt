@@ -10,13 +10,13 @@ use native.Mathlib.Omega.{arith}
 use lib.Dec.{eqb, ltb, lit<}
 use lib.IntN.{pos}
 use lib.ListN.{get_or}
-use Rattle.base.proofs.Cases.{byLt, clash}
+use Rattle.base.proofs.Cases.{by_lt, clash}
 use Rattle.base.specs.Every.{all_below}
 use Rattle.base.proofs.Every.{all-below, both_left, both_right}
-use Rattle.tagset.specs.Sets.{holds, countBelow}
-use Rattle.tagset.proofs.Laws.{holds-none}
-use Rattle.catalogue.specs.Items.{groups, member, itemIn, itemOf}
-use Rattle.catalogue.specs.Rows.{rows_from, rows, entry_at, allTags}
+use Rattle.tagset.specs.Sets.{holds, count_below}
+use Rattle.tagset.proofs.Laws.{holds_none}
+use Rattle.catalogue.specs.Items.{groups, member, item_in, item_of}
+use Rattle.catalogue.specs.Rows.{rows_from, rows, entry_at, all_tags}
 use Rattle.catalogue.specs.declared.Entry.{Entry}
 use Rattle.catalogue.proofs.Laws.{all_words}
 use Rattle.items.proofs.row_of.Statement.{statement}
@@ -34,27 +34,27 @@ tags =
 abbrev tag_at : ℕ → ℕ
 tag_at k = get_or tags k 0
 
-inOrder : ℕ → Bool
-inOrder k = eqb (countBelow allTags (tag_at k)) k
+in_order : ℕ → Bool
+in_order k = eqb (count_below all_tags (tag_at k)) k
 
-all-in-order : all_below inOrder 67 ≡ true
-unfolding inOrder holds countBelow allTags groups member itemIn itemOf rows_from rows
-all-in-order = refl
+all_in_order : all_below in_order 67 ≡ true
+unfolding in_order holds count_below all_tags groups member item_in item_of rows_from rows
+all_in_order = refl
 
-in_order : (k : ℕ) → k < 67 → countBelow allTags (tag_at k) ≡ k
-unfolding inOrder
-in_order k h = eqb-true _ _ (all-below inOrder 67 all-in-order k h)
+in-order : (k : ℕ) → k < 67 → count_below all_tags (tag_at k) ≡ k
+unfolding in_order
+in-order k h = eqb-true _ _ (all-below in_order 67 all_in_order k h)
 
 -- an arm reads the row of its tag
-arm : (l : List Entry) (t k : ℕ) → l ≡ rows → k < 67 → t ≡ tag_at k → get_or l k (0, 0, false, pos 0, pos 0) ≡ entry_at (countBelow allTags t)
-arm l t k e h p = rw (e, p, in_order k h)
+arm : (l : List Entry) (t k : ℕ) → l ≡ rows → k < 67 → t ≡ tag_at k → get_or l k (0, 0, false, pos 0, pos 0) ≡ entry_at (count_below all_tags t)
+arm l t k e h p = rw (e, p, in-order k h)
 
 -- a tag of the table is that of its place
 found : ℕ → Bool
-found t = cond (holds allTags t) (ltb (countBelow allTags t) 67 && eqb t (tag_at (countBelow allTags t))) true
+found t = cond (holds all_tags t) (ltb (count_below all_tags t) 67 && eqb t (tag_at (count_below all_tags t))) true
 
 all_found : all_below found 128 ≡ true
-unfolding found holds countBelow allTags groups member itemIn itemOf rows_from rows
+unfolding found holds count_below all_tags groups member item_in item_of rows_from rows
 all_found = refl
 
 record At (t : ℕ) : Type 0 where
@@ -62,19 +62,19 @@ record At (t : ℕ) : Type 0 where
   inside : place < 67
   same : t ≡ tag_at place
 
-at : (t : ℕ) → holds allTags t ≡ true → At t
+at : (t : ℕ) → holds all_tags t ≡ true → At t
 unfolding found
 at t e =
-    byLt t 128
+    by_lt t 128
     (λ h.
-    let k = countBelow allTags t in
+    let k = count_below all_tags t in
     let p = rw e at (all-below found 128 all_found t h) in
     record {
       place = k;
       inside = ltb-true k 67 (both_left (ltb k 67) _ p);
       same = eqb-true t (tag_at k) (both_right (ltb k 67) _ p);
     })
-    (λ h. clash (sym e ∙ holds-none allTags all_words t h))
+    (λ h. clash (sym e ∙ holds_none all_tags all_words t h))
 
 -- the last arm is left where the tag is none of the arms above
 abbrev Past : ℕ → ℕ → Type 0
@@ -98,8 +98,8 @@ last c =
     let h = past t 66 a.place c.before.match.rest a.same in
     arm _ t 66 c.before.before.table.ensures (omega arith) (a.same ∙ ap tag_at (top a.place h a.inside))
 
-pub row-of-spec : {M : Type 1} → statement M
-row-of-spec =
+pub row_of_spec : {M : Type 1} → statement M
+row_of_spec =
     tie.close
     (tie.spec
     (λ c κs. search rules)

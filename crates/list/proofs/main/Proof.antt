@@ -8,70 +8,70 @@ use lib.Seq.{length-take-le}
 use Rattle.list.proofs.main.Statement.{statement}
 use Rattle.list.proofs.main.Tie as tie
 
-slice-aggregate-read-full : tie.Need-slice-aggregate-read-full
-slice-aggregate-read-full c = search rules
+slice_aggregate_read_full : tie.Need-slice-aggregate-read-full
+slice_aggregate_read_full c = search rules
 
-read-full-requires : tie.Need-read-full-requires
-read-full-requires c κs = search rules
+read_full_requires : tie.Need-read-full-requires
+read_full_requires c κs = search rules
 
-array-share-prefix-packet : tie.Need-array-share-prefix-packet
-array-share-prefix-packet c = search rules
+array_share_prefix_packet : tie.Need-array-share-prefix-packet
+array_share_prefix_packet c = search rules
 
-slice-aggregate-list : tie.Need-slice-aggregate-list
-slice-aggregate-list c = search rules
+slice_aggregate_list : tie.Need-slice-aggregate-list
+slice_aggregate_list c = search rules
 
-slice-aggregate-list-2 : tie.Need-slice-aggregate-list-2
-slice-aggregate-list-2 c = search rules
+slice_aggregate_list_2 : tie.Need-slice-aggregate-list-2
+slice_aggregate_list_2 c = search rules
 
-list-requires : tie.Need-list-requires
-list-requires c κs = search rules
+list_requires : tie.Need-list-requires
+list_requires c κs = search rules
 
-enum-known-refusal : tie.Need-enum-known-refusal
-enum-known-refusal c = search rules
+enum_known_refusal : tie.Need-enum-known-refusal
+enum_known_refusal c = search rules
 
-refused-requires : tie.Need-refused-requires
-refused-requires c κs = search rules
+refused_requires : tie.Need-refused-requires
+refused_requires c κs = search rules
 
-enum-known-listed : tie.Need-enum-known-listed
-enum-known-listed c = search rules
+enum_known_listed : tie.Need-enum-known-listed
+enum_known_listed c = search rules
 
-array-share-prefix-out : tie.Need-array-share-prefix-out
-array-share-prefix-out c = search rules
+array_share_prefix_out : tie.Need-array-share-prefix-out
+array_share_prefix_out c = search rules
 
-slice-aggregate-write-all : tie.Need-slice-aggregate-write-all
-slice-aggregate-write-all c =
+slice_aggregate_write_all : tie.Need-slice-aggregate-write-all
+slice_aggregate_write_all c =
     let long : length c.before.before.before.before.before.before.list.new.1.0 ≡ 21781 =
     c.before.before.before.before.before.before.list.auto.1.0 in
     sym (length-take-le _ _ (omega (arith, long, c.before.if1.true)))
 
-write-all-requires : tie.Need-write-all-requires
-write-all-requires c κs = search rules
+write_all_requires : tie.Need-write-all-requires
+write_all_requires c κs = search rules
 
 returns : tie.Need-returns
 returns c = search rules
 
-returns-2 : tie.Need-returns-2
-returns-2 c = search rules
+returns_2 : tie.Need-returns-2
+returns_2 c = search rules
 
-returns-3 : tie.Need-returns-3
-returns-3 c = search rules
+returns_3 : tie.Need-returns-3
+returns_3 c = search rules
 
 pub main_spec : {M : Type 1} → statement M
 main_spec =
     tie.close
     (tie.spec
-    slice-aggregate-read-full
-    read-full-requires
-    array-share-prefix-packet
-    slice-aggregate-list
-    slice-aggregate-list-2
-    list-requires
-    enum-known-refusal
-    refused-requires
-    enum-known-listed
-    array-share-prefix-out
-    slice-aggregate-write-all
-    write-all-requires
+    slice_aggregate_read_full
+    read_full_requires
+    array_share_prefix_packet
+    slice_aggregate_list
+    slice_aggregate_list_2
+    list_requires
+    enum_known_refusal
+    refused_requires
+    enum_known_listed
+    array_share_prefix_out
+    slice_aggregate_write_all
+    write_all_requires
     returns
-    returns-2
-    returns-3)
+    returns_2
+    returns_3)

@@ -4,64 +4,64 @@ use Prim.Native.Nat.{◌+◌}
 use mathlib.Core.Path.{ap, ◌∙◌}
 use native.Mathlib.Omega.{arith}
 use borrow.Author.Rules.{rules}
-use Rattle.rows.specs.Taken.{partLength}
-use Rattle.listing.proofs.Sizes.{number-few}
-use Rattle.listing.proofs.Texts.{number-length, mark-length, text-length, withdrawn-length, carried-length}
+use Rattle.rows.specs.Taken.{part_length}
+use Rattle.listing.proofs.Sizes.{number_few}
+use Rattle.listing.proofs.Texts.{number_length, mark_length, text_length, withdrawn_length, carried_length}
 use Rattle.listing.proofs.content_size.Statement.{statement}
 use Rattle.listing.proofs.content_size.Tie as tie
 
-number-size-requires : tie.Need-number-size-requires
-number-size-requires c κs = search rules
+number_size_requires : tie.Need-number-size-requires
+number_size_requires c κs = search rules
 
-add-result : tie.Need-overflow-add-result
-add-result c =
+add_result : tie.Need-overflow-add-result
+add_result c =
     let r = c.before.before.before.before.before.args.row in
-    omega (arith, number-few r.tag (partLength r.part) r.code c.number_size.ensures)
+    omega (arith, number_few r.tag (part_length r.part) r.code c.number_size.ensures)
 
 returns : tie.Need-returns
-returns c = ap (λ k. 7 + k) c.number_size.ensures ∙ number-length _ _ c.before.if1.true
+returns c = ap (λ k. 7 + k) c.number_size.ensures ∙ number_length _ _ c.before.if1.true
 
-returns-2 : tie.Need-returns-2
-returns-2 c = mark-length _ _ c.before.before.if1.false c.if2.true
+returns_2 : tie.Need-returns-2
+returns_2 c = mark_length _ _ c.before.before.if1.false c.if2.true
 
-mul-result : tie.Need-overflow-mul-result
-mul-result c = search rules
+mul_result : tie.Need-overflow-mul-result
+mul_result c = search rules
 
-add-result-2 : tie.Need-overflow-add-result-2
-add-result-2 c = search rules
+add_result_2 : tie.Need-overflow-add-result-2
+add_result_2 c = search rules
 
-returns-3 : tie.Need-returns-3
-returns-3 c =
+returns_3 : tie.Need-returns-3
+returns_3 c =
     let s = c.before.before.before.before in
-    text-length _ _ s.if1.false c.before.before.if2.false s.before.before.before.before.requires c.if3.true
+    text_length _ _ s.if1.false c.before.before.if2.false s.before.before.before.before.requires c.if3.true
 
-returns-4 : tie.Need-returns-4
-returns-4 c = withdrawn-length _ _ c.if4.true
+returns_4 : tie.Need-returns-4
+returns_4 c = withdrawn_length _ _ c.if4.true
 
-mul-result-2 : tie.Need-overflow-mul-result-2
-mul-result-2 c = search rules
+mul_result_2 : tie.Need-overflow-mul-result-2
+mul_result_2 c = search rules
 
-add-result-3 : tie.Need-overflow-add-result-3
-add-result-3 c = search rules
+add_result_3 : tie.Need-overflow-add-result-3
+add_result_3 c = search rules
 
-returns-5 : tie.Need-returns-5
-returns-5 c =
+returns_5 : tie.Need-returns-5
+returns_5 c =
     let text = c.before.before in
     let s = text.before.before.before.before in
-    carried-length _ _ s.if1.false text.before.before.if2.false s.before.before.before.before.requires text.if3.false c.if4.false
+    carried_length _ _ s.if1.false text.before.before.if2.false s.before.before.before.before.requires text.if3.false c.if4.false
 
-pub content-size-spec : {M : Type 1} → statement M
-content-size-spec =
+pub content_size_spec : {M : Type 1} → statement M
+content_size_spec =
     tie.close
     (tie.spec
-    number-size-requires
-    add-result
+    number_size_requires
+    add_result
     returns
-    returns-2
-    mul-result
-    add-result-2
-    returns-3
-    returns-4
-    mul-result-2
-    add-result-3
-    returns-5)
+    returns_2
+    mul_result
+    add_result_2
+    returns_3
+    returns_4
+    mul_result_2
+    add_result_3
+    returns_5)

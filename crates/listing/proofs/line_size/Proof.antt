@@ -2,56 +2,56 @@
 -- Assumes nothing.
 use native.Mathlib.Omega.{arith}
 use borrow.Author.Rules.{rules}
-use Rattle.listing.proofs.Sizes.{decimal-fits, content-few}
-use Rattle.listing.proofs.Texts.{line-length}
+use Rattle.listing.proofs.Sizes.{decimal_fits, content_few}
+use Rattle.listing.proofs.Texts.{line_length}
 use Rattle.listing.proofs.line_size.Statement.{statement}
 use Rattle.listing.proofs.line_size.Tie as tie
 
-decimal-size-requires : tie.Need-decimal-size-requires
-decimal-size-requires c κs = search rules
+decimal_size_requires : tie.Need-decimal-size-requires
+decimal_size_requires c κs = search rules
 
-decimal-size-requires-2 : tie.Need-decimal-size-requires-2
-decimal-size-requires-2 c κs = search rules
+decimal_size_requires_2 : tie.Need-decimal-size-requires-2
+decimal_size_requires_2 c κs = search rules
 
-add-fields : tie.Need-overflow-add-fields
-add-fields c = omega (arith, decimal-fits _ c.before.decimal-size.ensures, decimal-fits _ c.decimal-size2.ensures)
+add_fields : tie.Need-overflow-add-fields
+add_fields c = omega (arith, decimal_fits _ c.before.decimal-size.ensures, decimal_fits _ c.decimal-size2.ensures)
 
-add-fields-2 : tie.Need-overflow-add-fields-2
-add-fields-2 c = omega (arith, decimal-fits _ c.before.decimal-size.ensures, decimal-fits _ c.decimal-size2.ensures)
+add_fields_2 : tie.Need-overflow-add-fields-2
+add_fields_2 c = omega (arith, decimal_fits _ c.before.decimal-size.ensures, decimal_fits _ c.decimal-size2.ensures)
 
-content-size-requires : tie.Need-content-size-requires
-content-size-requires c κs = search rules
+content_size_requires : tie.Need-content-size-requires
+content_size_requires c κs = search rules
 
-add-result : tie.Need-overflow-add-result
-add-result c =
+add_result : tie.Need-overflow-add-result
+add_result c =
     omega (
       arith,
-      decimal-fits _ c.before.before.decimal-size.ensures,
-      decimal-fits _ c.before.decimal-size2.ensures,
-      content-few _ _ c.content-size.ensures,
+      decimal_fits _ c.before.before.decimal-size.ensures,
+      decimal_fits _ c.before.decimal-size2.ensures,
+      content_few _ _ c.content-size.ensures,
     )
 
-add-result-2 : tie.Need-overflow-add-result-2
-add-result-2 c =
+add_result_2 : tie.Need-overflow-add-result-2
+add_result_2 c =
     omega (
       arith,
-      decimal-fits _ c.before.before.decimal-size.ensures,
-      decimal-fits _ c.before.decimal-size2.ensures,
-      content-few _ _ c.content-size.ensures,
+      decimal_fits _ c.before.before.decimal-size.ensures,
+      decimal_fits _ c.before.decimal-size2.ensures,
+      content_few _ _ c.content-size.ensures,
     )
 
 returns : tie.Need-returns
-returns c = line-length _ _ c.before.before.decimal-size.ensures c.before.decimal-size2.ensures c.content-size.ensures
+returns c = line_length _ _ c.before.before.decimal-size.ensures c.before.decimal-size2.ensures c.content-size.ensures
 
-pub line-size-spec : {M : Type 1} → statement M
-line-size-spec =
+pub line_size_spec : {M : Type 1} → statement M
+line_size_spec =
     tie.close
     (tie.spec
-    decimal-size-requires
-    decimal-size-requires-2
-    add-fields
-    add-fields-2
-    content-size-requires
-    add-result
-    add-result-2
+    decimal_size_requires
+    decimal_size_requires_2
+    add_fields
+    add_fields_2
+    content_size_requires
+    add_result
+    add_result_2
     returns)

@@ -1,60 +1,60 @@
 -- `listing::list_accepted` meets its contract.
 -- Assumes nothing.
 use borrow.Author.Rules.{rules}
-use Rattle.number.proofs.Laws.{bytes-lent}
-use Rattle.listing.proofs.Answers.{refuses-list, lists-accepted, listable}
+use Rattle.number.proofs.Laws.{bytes_lent}
+use Rattle.listing.proofs.Answers.{refuses_list, lists_accepted, listable}
 use Rattle.listing.proofs.list_accepted.Statement.{statement}
 use Rattle.listing.proofs.list_accepted.Tie as tie
 
-all-tags-requires : tie.Need-all-tags-requires
-all-tags-requires c κs = search rules
+all_tags_requires : tie.Need-all-tags-requires
+all_tags_requires c κs = search rules
 
-slice-aggregate-read : tie.Need-slice-aggregate-read
-slice-aggregate-read c = search rules
+slice_aggregate_read : tie.Need-slice-aggregate-read
+slice_aggregate_read c = search rules
 
-read-requires : tie.Need-read-requires
-read-requires c κs = search rules
+read_requires : tie.Need-read-requires
+read_requires c κs = search rules
 
-enum-known-refusal : tie.Need-enum-known-refusal
-enum-known-refusal c = search rules
+enum_known_refusal : tie.Need-enum-known-refusal
+enum_known_refusal c = search rules
 
-enum-known-filled : tie.Need-enum-known-filled
-enum-known-filled c = search rules
+enum_known_filled : tie.Need-enum-known-filled
+enum_known_filled c = search rules
 
-slice-aggregate-list-rows : tie.Need-slice-aggregate-list-rows
-slice-aggregate-list-rows c = search rules
+slice_aggregate_list_rows : tie.Need-slice-aggregate-list-rows
+slice_aggregate_list_rows c = search rules
 
-list-rows-requires : tie.Need-list-rows-requires
-list-rows-requires c κs =
+list_rows_requires : tie.Need-list-rows-requires
+list_rows_requires c κs =
     let s = c.before.before.before.before.before.before in
-    let by = bytes-lent s.before.before.before.before.shared-slice-known.given in
+    let by = bytes_lent s.before.before.before.before.shared-slice-known.given in
     listable s.before.before.all-tags.ensures s.read.ensures c.before.before.before.filled.given.1 by
 
 returns : tie.Need-returns
 returns c =
     let s = c.before.before.before.before in
-    refuses-list s.before.before.all-tags.ensures s.read.ensures c.before.refusal.given.1 _
+    refuses_list s.before.before.all-tags.ensures s.read.ensures c.before.refusal.given.1 _
 
 same_length : tie.Need-same-length
 same_length c = search rules
 
-returns-2 : tie.Need-returns-2
-returns-2 c =
+returns_2 : tie.Need-returns-2
+returns_2 c =
     let s = c.before.before.before.before.before.before.before.before.before in
-    lists-accepted s.before.before.all-tags.ensures s.read.ensures c.before.before.before.before.before.before.filled.given.1
+    lists_accepted s.before.before.all-tags.ensures s.read.ensures c.before.before.before.before.before.before.filled.given.1
     c.before.before.list-rows.ensures
 
-pub list-accepted-spec : {M : Type 1} → statement M
-list-accepted-spec =
+pub list_accepted_spec : {M : Type 1} → statement M
+list_accepted_spec =
     tie.close
     (tie.spec
-    all-tags-requires
-    slice-aggregate-read
-    read-requires
-    enum-known-refusal
-    enum-known-filled
-    slice-aggregate-list-rows
-    list-rows-requires
+    all_tags_requires
+    slice_aggregate_read
+    read_requires
+    enum_known_refusal
+    enum_known_filled
+    slice_aggregate_list_rows
+    list_rows_requires
     returns
     same_length
-    returns-2)
+    returns_2)

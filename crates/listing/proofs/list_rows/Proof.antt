@@ -4,57 +4,57 @@ use native.Mathlib.Nat.{zero-add}
 use mathlib.Core.Path.{refl, sym, ◌∙◌}
 use borrow.Author.Tests.{not-true, not-false, leb-true, leb-false}
 use borrow.Author.Rules.{rules}
-use Rattle.base.proofs.Putting.{front-room, room-first, room_after, wrote_then}
+use Rattle.base.proofs.Putting.{front_room, room_first, room_after, wrote_then}
 use Rattle.listing.specs.Lines.{header, lines_of}
-use Rattle.listing.proofs.Answers.{does-not-fit, fits}
+use Rattle.listing.proofs.Answers.{does_not_fit, fits}
 use Rattle.listing.proofs.list_rows.Statement.{statement}
 use Rattle.listing.proofs.list_rows.Tie as tie
 
-lines-fit-requires : tie.Need-lines-fit-requires
-lines-fit-requires c κs = search rules
+lines_fit_requires : tie.Need-lines-fit-requires
+lines_fit_requires c κs = search rules
 
-too-short-requires : tie.Need-too-short-requires
-too-short-requires c κs = search rules
+too_short_requires : tie.Need-too-short-requires
+too_short_requires c κs = search rules
 
 returns : tie.Need-returns
 returns c =
     let s = c.before.before in
-    does-not-fit refl (leb-false _ _ (sym s.lines_fit.ensures ∙ not-true _ c.before.if1.true)) c.too_short.ensures
+    does_not_fit refl (leb-false _ _ (sym s.lines_fit.ensures ∙ not-true _ c.before.if1.true)) c.too_short.ensures
 
-slice-aggregate-put-word : tie.Need-slice-aggregate-put-word
-slice-aggregate-put-word c = search rules
+slice_aggregate_put_word : tie.Need-slice-aggregate-put-word
+slice_aggregate_put_word c = search rules
 
-put-word-requires : tie.Need-put-word-requires
+put_word_requires : tie.Need-put-word-requires
 unfolding header
-put-word-requires c κs =
+put_word_requires c κs =
     let s = c.before.before in
-    room-first (lines_of _ _) (front-room refl (leb-true _ _ (sym s.before.lines_fit.ensures ∙ not-false _ s.if1.false)))
+    room_first (lines_of _ _) (front_room refl (leb-true _ _ (sym s.before.lines_fit.ensures ∙ not-false _ s.if1.false)))
 
-put-lines-requires : tie.Need-put-lines-requires
+put_lines_requires : tie.Need-put-lines-requires
 unfolding header
-put-lines-requires c κs =
+put_lines_requires c κs =
     let s = c.before.before.before.before.before.before in
-    let room = front-room refl (leb-true _ _ (sym s.before.lines_fit.ensures ∙ not-false _ s.if1.false)) in
+    let room = front_room refl (leb-true _ _ (sym s.before.lines_fit.ensures ∙ not-false _ s.if1.false)) in
     (s.before.before.before.before.before.requires, room_after c.before.before.before.put_word.ensures room)
 
 same_length : tie.Need-same-length
 same_length c = search rules
 
-returns-2 : tie.Need-returns-2
+returns_2 : tie.Need-returns-2
 unfolding header
-returns-2 c =
+returns_2 c =
     let w = wrote_then c.before.before.before.before.before.before.put_word.ensures c.before.before.put-lines.ensures in
     fits (w.after ∙ zero-add _) refl w
 
-pub list-rows-spec : {M : Type 1} → statement M
-list-rows-spec =
+pub list_rows_spec : {M : Type 1} → statement M
+list_rows_spec =
     tie.close
     (tie.spec
-    lines-fit-requires
-    too-short-requires
+    lines_fit_requires
+    too_short_requires
     returns
-    slice-aggregate-put-word
-    put-word-requires
-    put-lines-requires
+    slice_aggregate_put_word
+    put_word_requires
+    put_lines_requires
     same_length
-    returns-2)
+    returns_2)

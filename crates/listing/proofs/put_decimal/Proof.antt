@@ -2,23 +2,23 @@
 -- Assumes nothing.
 use native.Mathlib.Omega.{arith}
 use borrow.Author.Rules.{rules}
-use Rattle.base.proofs.Putting.{puts-wrote}
+use Rattle.base.proofs.Putting.{puts_wrote}
 use Rattle.listing.proofs.put_decimal.Statement.{statement}
 use Rattle.listing.proofs.put_decimal.Tie as tie
 
-put-decimal-requires : tie.Need-put-decimal-requires
-put-decimal-requires c κs = search rules
+put_decimal_requires : tie.Need-put-decimal-requires
+put_decimal_requires c κs = search rules
 
-add-result : tie.Need-overflow-add-result
-add-result c =
+add_result : tie.Need-overflow-add-result
+add_result c =
     let s = c.before.before.before.before.before in
-    omega (arith, (puts-wrote s.requires c.before.before.put-decimal.ensures).inside, s.well-formed)
+    omega (arith, (puts_wrote s.requires c.before.before.put-decimal.ensures).inside, s.well-formed)
 
 same_length : tie.Need-same-length
 same_length c = search rules
 
 returns : tie.Need-returns
-returns c = puts-wrote c.before.before.before.before.before.requires c.before.before.put-decimal.ensures
+returns c = puts_wrote c.before.before.before.before.before.requires c.before.before.put-decimal.ensures
 
-pub put-decimal-spec : {M : Type 1} → statement M
-put-decimal-spec = tie.close (tie.spec put-decimal-requires add-result same_length returns)
+pub put_decimal_spec : {M : Type 1} → statement M
+put_decimal_spec = tie.close (tie.spec put_decimal_requires add_result same_length returns)

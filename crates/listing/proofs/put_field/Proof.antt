@@ -1,21 +1,21 @@
 -- `listing::put_field` meets its contract.
 -- Assumes nothing.
 use borrow.Author.Rules.{rules}
-use Rattle.base.proofs.Putting.{room-first, room_after, wrote_then}
+use Rattle.base.proofs.Putting.{room_first, room_after, wrote_then}
 use Rattle.listing.specs.Lines.{field}
 use Rattle.listing.proofs.put_field.Statement.{statement}
 use Rattle.listing.proofs.put_field.Tie as tie
 
-put-decimal-requires : tie.Need-put-decimal-requires
+put_decimal_requires : tie.Need-put-decimal-requires
 unfolding field
-put-decimal-requires c κs = room-first _ c.before.before.requires
+put_decimal_requires c κs = room_first _ c.before.before.requires
 
-slice-aggregate-put-word : tie.Need-slice-aggregate-put-word
-slice-aggregate-put-word c = search rules
+slice_aggregate_put_word : tie.Need-slice-aggregate-put-word
+slice_aggregate_put_word c = search rules
 
-put-word-requires : tie.Need-put-word-requires
+put_word_requires : tie.Need-put-word-requires
 unfolding field
-put-word-requires c κs = room_after c.before.before.before.before.put-decimal.ensures c.before.before.before.before.before.before.before.requires
+put_word_requires c κs = room_after c.before.before.before.before.put-decimal.ensures c.before.before.before.before.before.before.before.requires
 
 same_length : tie.Need-same-length
 same_length c = search rules
@@ -24,7 +24,7 @@ returns : tie.Need-returns
 unfolding field
 returns c = wrote_then c.before.before.before.before.before.before.before.put-decimal.ensures c.before.before.put_word.ensures
 
-pub put-field-spec : {M : Type 1} → statement M
-put-field-spec =
+pub put_field_spec : {M : Type 1} → statement M
+put_field_spec =
     tie.close
-    (tie.spec put-decimal-requires slice-aggregate-put-word put-word-requires same_length returns)
+    (tie.spec put_decimal_requires slice_aggregate_put_word put_word_requires same_length returns)

@@ -2,12 +2,12 @@
 use Rattle.std.specs.Prelude.{ℕ, ◌+◌, ◌*◌, ◌≤◌, List, length}
 use Rattle.base.specs.Every.{Each}
 use Rattle.rows.specs.declared.RowWords.{RowWords}
-use Rattle.rows.specs.Taken.{partPlace, partLength}
+use Rattle.rows.specs.Taken.{part_place, part_length}
 use Rattle.listing.specs.Lines.{lines_of}
 
 -- a row whose value lies in the packet
 abbrev pub InPacket : List ℕ → RowWords → Type 0
-InPacket p r = partPlace r.part + partLength r.part ≤ length p
+InPacket p r = part_place r.part + part_length r.part ≤ length p
 
 -- rows of a packet: a line has at most 42 bytes and two digits for each byte of its value
 pub record Listable (p : List ℕ) (rs : List RowWords) : Type 0 where

@@ -5,17 +5,17 @@ use native.Mathlib.Omega.{arith}
 use Prim.Native.Nat.{◌/◌, ◌%◌, ◌^◌}
 use mathlib.Core.Path.{◌≡◌, refl, ap, ◌∙◌}
 use mathlib.Core.List.{[], ◌∷◌}
-use Rattle.base.specs.Putting.{putInto}
-use Rattle.base.proofs.Putting.{put_one, all-wrote}
+use Rattle.base.specs.Putting.{put_into}
+use Rattle.base.proofs.Putting.{put_one, all_wrote}
 use Rattle.number.specs.Stored.{bytes_of}
 use Rattle.number.proofs.put_byte.Statement.{statement}
 use Rattle.number.proofs.put_byte.Tie as tie
 
-cast-out : tie.Need-overflow-cast-out
-cast-out c = search rules
+cast_out : tie.Need-overflow-cast-out
+cast_out c = search rules
 
-slice-write-out : tie.Need-slice-write-out
-slice-write-out c = search rules
+slice_write_out : tie.Need-slice-write-out
+slice_write_out c = search rules
 
 same_length : tie.Need-same-length
 same_length c = search rules
@@ -25,8 +25,8 @@ unfolding bytes_of
 returns c =
     let a = c.args in
     let byte : a.x % 256 ≡ a.x / 256 ^ 0 % 256 = omega arith in
-    all-wrote a.out.now a.at 1 (bytes_of 1 a.x) refl c.requires _
-    (put_one a.out.now a.at (a.x % 256) (omega arith) ∙ ap (λ b. putInto a.out.now a.at (b ∷ [])) byte)
+    all_wrote a.out.now a.at 1 (bytes_of 1 a.x) refl c.requires _
+    (put_one a.out.now a.at (a.x % 256) (omega arith) ∙ ap (λ b. put_into a.out.now a.at (b ∷ [])) byte)
 
-pub put-byte-spec : {M : Type 1} → statement M
-put-byte-spec = tie.close (tie.spec cast-out slice-write-out same_length returns)
+pub put_byte_spec : {M : Type 1} → statement M
+put_byte_spec = tie.close (tie.spec cast_out slice_write_out same_length returns)

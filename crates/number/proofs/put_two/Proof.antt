@@ -2,18 +2,18 @@
 -- Assumes nothing.
 use borrow.Author.Rules.{rules}
 use native.Mathlib.Omega.{arith}
-use Rattle.number.proofs.Runs.{both-put}
+use Rattle.number.proofs.Runs.{both_put}
 use Rattle.number.proofs.put_two.Statement.{statement}
 use Rattle.number.proofs.put_two.Tie as tie
 
-put-byte-requires : tie.Need-put-byte-requires
-put-byte-requires c κs = search rules
+put_byte_requires : tie.Need-put-byte-requires
+put_byte_requires c κs = search rules
 
-add-put-byte : tie.Need-overflow-add-put-byte
-add-put-byte c = search rules
+add_put_byte : tie.Need-overflow-add-put-byte
+add_put_byte c = search rules
 
-put-byte-requires-2 : tie.Need-put-byte-requires-2
-put-byte-requires-2 c κs = search rules
+put_byte_requires_2 : tie.Need-put-byte-requires-2
+put_byte_requires_2 c κs = search rules
 
 same_length : tie.Need-same-length
 same_length c = search rules
@@ -21,8 +21,8 @@ same_length c = search rules
 returns : tie.Need-returns
 returns c =
     let second = c.before.before in
-    both-put 1 1 _ second.before.before.before.before.put_byte.ensures second.put-byte2.ensures (omega arith)
+    both_put 1 1 _ second.before.before.before.before.put_byte.ensures second.put-byte2.ensures (omega arith)
 
-pub put-two-spec : {M : Type 1} → statement M
-put-two-spec =
-    tie.close (tie.spec put-byte-requires add-put-byte put-byte-requires-2 same_length returns)
+pub put_two_spec : {M : Type 1} → statement M
+put_two_spec =
+    tie.close (tie.spec put_byte_requires add_put_byte put_byte_requires_2 same_length returns)

@@ -4,52 +4,52 @@ use borrow.Author.Rules.{rules}
 use native.Mathlib.Omega.{arith}
 use mathlib.Core.Path.{sym, ap, ◌∙◌}
 use borrow.Author.Tests.{le-ltb}
-use Rattle.packet.specs.Ends.{rightEnds}
-use Rattle.packet.specs.Said.{rightSaid}
+use Rattle.packet.specs.Ends.{right_ends}
+use Rattle.packet.specs.Said.{right_said}
 use Rattle.outgoing.proofs.ends_at_a_glance.Statement.{statement}
 use Rattle.outgoing.proofs.ends_at_a_glance.Tie as tie
 
-packet-size-requires : tie.Need-packet-size-requires
-packet-size-requires c κs = search rules
+packet_size_requires : tie.Need-packet-size-requires
+packet_size_requires c κs = search rules
 
-ends-of-requires : tie.Need-ends-of-requires
-ends-of-requires c κs = search rules
+ends_of_requires : tie.Need-ends-of-requires
+ends_of_requires c κs = search rules
 
-check-ends-requires : tie.Need-check-ends-requires
-check-ends-requires c κs = search rules
+check_ends_requires : tie.Need-check-ends-requires
+check_ends_requires c κs = search rules
 
 enum_told : tie.Need-enum-told
 enum_told c = search rules
 
-enum-told-2 : tie.Need-enum-told-2
-enum-told-2 c = search rules
+enum_told_2 : tie.Need-enum-told-2
+enum_told_2 c = search rules
 
 returns : tie.Need-returns
 returns c h =
     let ends = c.before.before in
     let fits = ends.before.before in
-    let packed = fits.before.before.packet-size in
+    let packed = fits.before.before.packet_size in
     record {
       small = rw (le-ltb 8192 packed.result.size fits.if1.true);
-      right = sym (ends.check-ends.ensures ∙ ap rightEnds ends.before.ends_of.ensures) ∙ ap rightSaid c.enum_told.given.1;
+      right = sym (ends.check-ends.ensures ∙ ap right_ends ends.before.ends_of.ensures) ∙ ap right_said c.enum_told.given.1;
       packed = packed.ensures;
     }
 
-returns-2 : tie.Need-returns-2
-returns-2 c h = absurd (omega arith)
+returns_2 : tie.Need-returns-2
+returns_2 c h = absurd (omega arith)
 
-returns-3 : tie.Need-returns-3
-returns-3 c h = absurd (omega arith)
+returns_3 : tie.Need-returns-3
+returns_3 c h = absurd (omega arith)
 
-pub ends-at-a-glance-spec : {M : Type 1} → statement M
-ends-at-a-glance-spec =
+pub ends_at_a_glance_spec : {M : Type 1} → statement M
+ends_at_a_glance_spec =
     tie.close
     (tie.spec
-    packet-size-requires
-    ends-of-requires
-    check-ends-requires
+    packet_size_requires
+    ends_of_requires
+    check_ends_requires
     enum_told
-    enum-told-2
+    enum_told_2
     returns
-    returns-2
-    returns-3)
+    returns_2
+    returns_3)

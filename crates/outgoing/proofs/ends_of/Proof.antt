@@ -8,17 +8,17 @@ use Rattle.outgoing.proofs.ends_of.Tie as tie
 returns : tie.Need-returns
 returns c = rw (eq-eqb _ 0 c.if1.true)
 
-sub-end : tie.Need-overflow-sub-end
-sub-end c = search rules
+sub_end : tie.Need-overflow-sub-end
+sub_end c = search rules
 
-row-at-requires : tie.Need-row-at-requires
-row-at-requires c κs = search rules
+row_at_requires : tie.Need-row-at-requires
+row_at_requires c κs = search rules
 
-row-at-requires-2 : tie.Need-row-at-requires-2
-row-at-requires-2 c κs = search rules
+row_at_requires_2 : tie.Need-row-at-requires-2
+row_at_requires_2 c κs = search rules
 
-returns-2 : tie.Need-returns-2
-returns-2 c = rw (ne_eqb _ 0 c.before.before.before.if1.false, c.before.before.row_at.ensures, c.before.row-at2.ensures)
+returns_2 : tie.Need-returns-2
+returns_2 c = rw (ne_eqb _ 0 c.before.before.before.if1.false, c.before.before.row_at.ensures, c.before.row-at2.ensures)
 
-pub ends-of-spec : {M : Type 1} → statement M
-ends-of-spec = tie.close (tie.spec returns sub-end row-at-requires row-at-requires-2 returns-2)
+pub ends_of_spec : {M : Type 1} → statement M
+ends_of_spec = tie.close (tie.spec returns sub_end row_at_requires row_at_requires_2 returns_2)

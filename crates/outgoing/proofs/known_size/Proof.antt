@@ -3,24 +3,24 @@
 use borrow.Author.Rules.{rules}
 use native.Mathlib.Omega.{arith}
 use mathlib.Core.Path.{sym, ap, ◌∙◌}
-use Rattle.packet.specs.Said.{faultSaid}
+use Rattle.packet.specs.Said.{fault_said}
 use Rattle.outgoing.proofs.known_size.Statement.{statement}
 use Rattle.outgoing.proofs.known_size.Tie as tie
 
-is-good-row-requires : tie.Need-is-good-row-requires
-is-good-row-requires c κs = search rules
+is_good_row_requires : tie.Need-is-good-row-requires
+is_good_row_requires c κs = search rules
 
-fault-of-requires : tie.Need-fault-of-requires
-fault-of-requires c κs = search rules
+fault_of_requires : tie.Need-fault-of-requires
+fault_of_requires c κs = search rules
 
 enum_told : tie.Need-enum-told
 enum_told c = search rules
 
-row-size-requires : tie.Need-row-size-requires
-row-size-requires c κs = search rules
+row_size_requires : tie.Need-row-size-requires
+row_size_requires c κs = search rules
 
-enum-told-2 : tie.Need-enum-told-2
-enum-told-2 c = search rules
+enum_told_2 : tie.Need-enum-told-2
+enum_told_2 c = search rules
 
 returns : tie.Need-returns
 returns c h =
@@ -28,25 +28,25 @@ returns c h =
     let found = told.before.before in
     record {
       good = sym found.before.before.before.is-good-row.ensures ∙ found.before.before.if1.true;
-      right = sym found.fault-of.ensures ∙ ap faultSaid told.enum_told.given.1;
+      right = sym found.fault-of.ensures ∙ ap fault_said told.enum_told.given.1;
       size = c.row-size.ensures;
     }
 
-returns-2 : tie.Need-returns-2
-returns-2 c h = absurd (omega arith)
+returns_2 : tie.Need-returns-2
+returns_2 c h = absurd (omega arith)
 
-returns-3 : tie.Need-returns-3
-returns-3 c h = absurd (omega arith)
+returns_3 : tie.Need-returns-3
+returns_3 c h = absurd (omega arith)
 
-pub known-size-spec : {M : Type 1} → statement M
-known-size-spec =
+pub known_size_spec : {M : Type 1} → statement M
+known_size_spec =
     tie.close
     (tie.spec
-    is-good-row-requires
-    fault-of-requires
+    is_good_row_requires
+    fault_of_requires
     enum_told
-    row-size-requires
-    enum-told-2
+    row_size_requires
+    enum_told_2
     returns
-    returns-2
-    returns-3)
+    returns_2
+    returns_3)

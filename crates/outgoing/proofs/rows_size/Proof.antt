@@ -5,65 +5,65 @@ use native.Mathlib.Nat.{sub-zero, zero-add}
 use native.Mathlib.Omega.{arith}
 use Prim.Native.Nat.{◌+◌, ◌-◌}
 use mathlib.Core.Path.{◌≡◌}
-use Rattle.packet.specs.Rows.{rowsIn}
-use Rattle.outgoing.specs.code.Staged.{rowsSize}
-use Rattle.outgoing.proofs.Walked.{rows-small, size-more, size-end}
+use Rattle.packet.specs.Rows.{rows_in}
+use Rattle.outgoing.specs.code.Staged.{rows_size}
+use Rattle.outgoing.proofs.Walked.{rows_small, size_more, size_end}
 use Rattle.outgoing.proofs.rows_size.Statement.{statement}
 use Rattle.outgoing.proofs.rows_size.Tie as tie
 
-abbrev invariant-loop : tie.invariant-loop
-invariant-loop count words size₀ n₀ size n = size + rowsSize (rowsIn n (count - n) words) ≡ rowsSize (rowsIn 0 count words)
+abbrev invariant_loop : tie.invariant-loop
+invariant_loop count words size₀ n₀ size n = size + rows_size (rows_in n (count - n) words) ≡ rows_size (rows_in 0 count words)
 
-abbrev decreases-loop : tie.decreases-loop
-decreases-loop count words size₀ n₀ size n = count - n
+abbrev decreases_loop : tie.decreases-loop
+decreases_loop count words size₀ n₀ size n = count - n
 
 -- what the loop's row adds
-now : (c : tie.After-row-size invariant-loop decreases-loop)
-    → rowsSize
-    (rowsIn c.before.before.before.loop.n (c.before.before.before.before.before.args.count - c.before.before.before.loop.n)
-    c.before.before.before.before.before.args.words.now) ≡ c.row-size.result + rowsSize
-    (rowsIn (c.before.before.before.loop.n + 1) (c.before.before.before.before.before.args.count - (c.before.before.before.loop.n + 1))
+now : (c : tie.After-row-size invariant_loop decreases_loop)
+    → rows_size
+    (rows_in c.before.before.before.loop.n (c.before.before.before.before.before.args.count - c.before.before.before.loop.n)
+    c.before.before.before.before.before.args.words.now) ≡ c.row-size.result + rows_size
+    (rows_in (c.before.before.before.loop.n + 1) (c.before.before.before.before.before.args.count - (c.before.before.before.loop.n + 1))
     c.before.before.before.before.before.args.words.now)
-now c = rw (c.row-size.ensures, c.before.row_at.ensures) (size-more _ _ _ c.before.before.loop-test.true)
+now c = rw (c.row-size.ensures, c.before.row_at.ensures) (size_more _ _ _ c.before.before.loop-test.true)
 
-loop-holds : tie.Need-loop-init invariant-loop decreases-loop
-loop-holds c = rw sub-zero (zero-add _)
+loop_holds : tie.Need-loop-init invariant_loop decreases_loop
+loop_holds c = rw sub-zero (zero-add _)
 
-row-at-requires : tie.Need-row-at-requires invariant-loop decreases-loop
-row-at-requires c κs = search rules
+row_at_requires : tie.Need-row-at-requires invariant_loop decreases_loop
+row_at_requires c κs = search rules
 
-row-size-requires : tie.Need-row-size-requires invariant-loop decreases-loop
-row-size-requires c κs = search rules
+row_size_requires : tie.Need-row-size-requires invariant_loop decreases_loop
+row_size_requires c κs = search rules
 
-add-size : tie.Need-overflow-add-size invariant-loop decreases-loop
-add-size c =
+add_size : tie.Need-overflow-add-size invariant_loop decreases_loop
+add_size c =
     let a = c.before.before.before.before.before.args in
-    omega (arith, now c, rows-small 0 a.count a.words.now)
+    omega (arith, now c, rows_small 0 a.count a.words.now)
 
-add-n : tie.Need-overflow-add-n invariant-loop decreases-loop
-add-n c = search rules
+add_n : tie.Need-overflow-add-n invariant_loop decreases_loop
+add_n c = search rules
 
-loop-less : tie.Need-loop-smaller invariant-loop decreases-loop
-loop-less c = omega arith
+loop_less : tie.Need-loop-smaller invariant_loop decreases_loop
+loop_less c = omega arith
 
-loop-again : tie.Need-loop-preserved invariant-loop decreases-loop
-loop-again c = omega (arith, now c)
+loop_again : tie.Need-loop-preserved invariant_loop decreases_loop
+loop_again c = omega (arith, now c)
 
-returns : tie.Need-returns invariant-loop decreases-loop
+returns : tie.Need-returns invariant_loop decreases_loop
 returns c =
-    omega (arith, size-end c.before.before.before.args.words.now c.before.before.before.args.count c.before.loop.n c.loop-test.false)
+    omega (arith, size_end c.before.before.before.args.words.now c.before.before.before.args.count c.before.loop.n c.loop-test.false)
 
-pub rows-size-spec : {M : Type 1} → statement M
-rows-size-spec =
+pub rows_size_spec : {M : Type 1} → statement M
+rows_size_spec =
     tie.close
     (tie.spec
-    invariant-loop
-    decreases-loop
-    loop-holds
-    row-at-requires
-    row-size-requires
-    add-size
-    add-n
-    loop-less
-    loop-again
+    invariant_loop
+    decreases_loop
+    loop_holds
+    row_at_requires
+    row_size_requires
+    add_size
+    add_n
+    loop_less
+    loop_again
     returns)

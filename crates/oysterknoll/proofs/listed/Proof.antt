@@ -7,11 +7,11 @@ use borrow.Author.Rules.{rules}
 use Rattle.oysterknoll.proofs.listed.Statement.{statement}
 use Rattle.oysterknoll.proofs.listed.Tie as tie
 
-stored-as-requires : tie.Need-stored-as-requires
-stored-as-requires c κs = search rules
+stored_as_requires : tie.Need-stored-as-requires
+stored_as_requires c κs = search rules
 
-marked-as-requires : tie.Need-marked-as-requires
-marked-as-requires c κs = search rules
+marked_as_requires : tie.Need-marked-as-requires
+marked_as_requires c κs = search rules
 
 returns : tie.Need-returns
 returns c =
@@ -19,5 +19,5 @@ returns c =
     let high : SFits w64 c.before.before.before.args.item.high = search rules in
     rw (c.before.before.stored-as.ensures, c.before.marked-as.ensures, to_z-of_z low, to_z-of_z high)
 
-pub listed-spec : {M : Type 1} → statement M
-listed-spec = tie.close (tie.spec stored-as-requires marked-as-requires returns)
+pub listed_spec : {M : Type 1} → statement M
+listed_spec = tie.close (tie.spec stored_as_requires marked_as_requires returns)

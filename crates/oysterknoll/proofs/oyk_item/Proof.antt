@@ -3,40 +3,40 @@
 use mathlib.Core.Path.{sym, ap, ◌∙◌}
 use borrow.Author.Rules.{rules}
 use Rattle.catalogue.specs.Items.{unit_of}
-use Rattle.units.specs.Units.{unitNumber}
-use Rattle.oysterknoll.specs.Answers.{listing, itemAnswer}
+use Rattle.units.specs.Units.{unit_number}
+use Rattle.oysterknoll.specs.Answers.{listing, item_answer}
 use Rattle.oysterknoll.proofs.oyk_item.Statement.{statement}
 use Rattle.oysterknoll.proofs.oyk_item.Tie as tie
 
-item-of-requires : tie.Need-item-of-requires
-item-of-requires c κs = search rules
+item_of_requires : tie.Need-item-of-requires
+item_of_requires c κs = search rules
 
-enum-known-item : tie.Need-enum-known-item
-enum-known-item c = search rules
+enum_known_item : tie.Need-enum-known-item
+enum_known_item c = search rules
 
-unit-of-requires : tie.Need-unit-of-requires
-unit-of-requires c κs = search rules
+unit_of_requires : tie.Need-unit-of-requires
+unit_of_requires c κs = search rules
 
-number-of-requires : tie.Need-number-of-requires
-number-of-requires c κs = search rules
+number_of_requires : tie.Need-number-of-requires
+number_of_requires c κs = search rules
 
-listed-requires : tie.Need-listed-requires
-listed-requires c κs = search rules
+listed_requires : tie.Need-listed-requires
+listed_requires c κs = search rules
 
 enum_told : tie.Need-enum-told
 enum_told c = search rules
 
 returns : tie.Need-returns
 returns c =
-    let unit = c.before.number_of_lem.ensures ∙ ap unitNumber c.before.before.unit-of.ensures in
+    let unit = c.before.number_of_lem.ensures ∙ ap unit_number c.before.before.unit-of.ensures in
     let i = c.before.before.before.before in
     let a = i.before.before in
     c.listed.ensures
     ∙ (ap (listing i.item.given.0.0) unit
-    ∙ ap (λ f. itemAnswer f (unit_of a.before.args.tag)) (sym i.item.given.1 ∙ a.item_of.ensures))
+    ∙ ap (λ f. item_answer f (unit_of a.before.args.tag)) (sym i.item.given.1 ∙ a.item_of.ensures))
 
-returns-2 : tie.Need-returns-2
-returns-2 c = ap (λ f. itemAnswer f (unit_of c.before.before.before.args.tag)) (sym c.enum_told.given.1 ∙ c.before.before.item_of.ensures)
+returns_2 : tie.Need-returns-2
+returns_2 c = ap (λ f. item_answer f (unit_of c.before.before.before.args.tag)) (sym c.enum_told.given.1 ∙ c.before.before.item_of.ensures)
 
-pub oyk-item-spec : {M : Type 1} → statement M
-oyk-item-spec = tie.close (tie.spec item-of-requires enum-known-item unit-of-requires number-of-requires listed-requires enum_told returns returns-2)
+pub oyk_item_spec : {M : Type 1} → statement M
+oyk_item_spec = tie.close (tie.spec item_of_requires enum_known_item unit_of_requires number_of_requires listed_requires enum_told returns returns_2)

@@ -2,23 +2,23 @@
 -- Assumes nothing.
 use mathlib.Core.Path.{ap, ◌∙◌}
 use borrow.Author.Rules.{rules}
-use Rattle.listing.specs.Lists.{listSaid}
-use Rattle.oysterknoll.specs.Answers.{sizing, linesAnswer}
+use Rattle.listing.specs.Lists.{list_said}
+use Rattle.oysterknoll.specs.Answers.{sizing, lines_answer}
 use Rattle.oysterknoll.proofs.Said.{said}
 use Rattle.oysterknoll.proofs.oyk_list.Statement.{statement}
 use Rattle.oysterknoll.proofs.oyk_list.Tie as tie
 
-list-accepted-requires : tie.Need-list-accepted-requires
-list-accepted-requires c κs = search rules
+list_accepted_requires : tie.Need-list-accepted-requires
+list_accepted_requires c κs = search rules
 
-enum-known-cause : tie.Need-enum-known-cause
-enum-known-cause c = search rules
+enum_known_cause : tie.Need-enum-known-cause
+enum_known_cause c = search rules
 
-refused-requires : tie.Need-refused-requires
-refused-requires c κs = search rules
+refused_requires : tie.Need-refused-requires
+refused_requires c κs = search rules
 
-enum-known-listed : tie.Need-enum-known-listed
-enum-known-listed c = search rules
+enum_known_listed : tie.Need-enum-known-listed
+enum_known_listed c = search rules
 
 same_length : tie.Need-same-length
 same_length c = search rules
@@ -26,28 +26,28 @@ same_length c = search rules
 returns : tie.Need-returns
 returns c = (
   ap (λ x. sizing x 0) c.refused.ensures
-      ∙ said linesAnswer listSaid c.before.before.cause.given.1 c.before.before.before.before.before.before.list-accepted.ensures.answer,
+      ∙ said lines_answer list_said c.before.before.cause.given.1 c.before.before.before.before.before.before.list-accepted.ensures.answer,
   c.before.before.before.before.before.before.list-accepted.ensures.output,
 )
 
-same-length-2 : tie.Need-same-length-2
-same-length-2 c = search rules
+same_length_2 : tie.Need-same-length-2
+same_length_2 c = search rules
 
-returns-2 : tie.Need-returns-2
-returns-2 c = (
-  said linesAnswer listSaid c.before.listed.given.1 c.before.before.before.before.before.list-accepted.ensures.answer,
+returns_2 : tie.Need-returns-2
+returns_2 c = (
+  said lines_answer list_said c.before.listed.given.1 c.before.before.before.before.before.list-accepted.ensures.answer,
   c.before.before.before.before.before.list-accepted.ensures.output,
 )
 
-pub oyk-list-spec : {M : Type 1} → statement M
-oyk-list-spec =
+pub oyk_list_spec : {M : Type 1} → statement M
+oyk_list_spec =
     tie.close
     (tie.spec
-    list-accepted-requires
-    enum-known-cause
-    refused-requires
-    enum-known-listed
+    list_accepted_requires
+    enum_known_cause
+    refused_requires
+    enum_known_listed
     same_length
     returns
-    same-length-2
-    returns-2)
+    same_length_2
+    returns_2)

@@ -2,18 +2,18 @@
 -- Assumes nothing.
 use mathlib.Core.Path.{ap, ◌∙◌}
 use borrow.Author.Rules.{rules}
-use Rattle.oysterknoll.specs.Answers.{heightAnswer}
+use Rattle.oysterknoll.specs.Answers.{height_answer}
 use Rattle.oysterknoll.proofs.oyk_sensor_height.Statement.{statement}
 use Rattle.oysterknoll.proofs.oyk_sensor_height.Tie as tie
 
-sensor-height-requires : tie.Need-sensor-height-requires
-sensor-height-requires c κs = search rules
+sensor_height_requires : tie.Need-sensor-height-requires
+sensor_height_requires c κs = search rules
 
-height-found-requires : tie.Need-height-found-requires
-height-found-requires c κs = search rules
+height_found_requires : tie.Need-height-found-requires
+height_found_requires c κs = search rules
 
 returns : tie.Need-returns
-returns c = c.height-found.ensures ∙ ap heightAnswer c.before.sensor-height.ensures
+returns c = c.height-found.ensures ∙ ap height_answer c.before.sensor-height.ensures
 
-pub oyk-sensor-height-spec : {M : Type 1} → statement M
-oyk-sensor-height-spec = tie.close (tie.spec sensor-height-requires height-found-requires returns)
+pub oyk_sensor_height_spec : {M : Type 1} → statement M
+oyk_sensor_height_spec = tie.close (tie.spec sensor_height_requires height_found_requires returns)

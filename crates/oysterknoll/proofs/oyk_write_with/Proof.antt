@@ -2,23 +2,23 @@
 -- Assumes nothing.
 use mathlib.Core.Path.{ap, ◌∙◌}
 use borrow.Author.Rules.{rules}
-use Rattle.writer.specs.Writes.{writeSaid}
-use Rattle.oysterknoll.specs.Answers.{sizing, bytesAnswer}
+use Rattle.writer.specs.Writes.{write_said}
+use Rattle.oysterknoll.specs.Answers.{sizing, bytes_answer}
 use Rattle.oysterknoll.proofs.Said.{said}
 use Rattle.oysterknoll.proofs.oyk_write_with.Statement.{statement}
 use Rattle.oysterknoll.proofs.oyk_write_with.Tie as tie
 
-write-with-requires : tie.Need-write-with-requires
-write-with-requires c κs = search rules
+write_with_requires : tie.Need-write-with-requires
+write_with_requires c κs = search rules
 
-enum-known-cause : tie.Need-enum-known-cause
-enum-known-cause c = search rules
+enum_known_cause : tie.Need-enum-known-cause
+enum_known_cause c = search rules
 
-refused-requires : tie.Need-refused-requires
-refused-requires c κs = search rules
+refused_requires : tie.Need-refused-requires
+refused_requires c κs = search rules
 
-enum-known-written : tie.Need-enum-known-written
-enum-known-written c = search rules
+enum_known_written : tie.Need-enum-known-written
+enum_known_written c = search rules
 
 same_length : tie.Need-same-length
 same_length c = search rules
@@ -26,18 +26,18 @@ same_length c = search rules
 returns : tie.Need-returns
 returns c = (
   ap (λ x. sizing x 0) c.refused.ensures
-      ∙ said bytesAnswer writeSaid c.before.before.cause.given.1 c.before.before.before.before.before.before.write-with.ensures.answer,
+      ∙ said bytes_answer write_said c.before.before.cause.given.1 c.before.before.before.before.before.before.write-with.ensures.answer,
   c.before.before.before.before.before.before.write-with.ensures.output,
 )
 
-same-length-2 : tie.Need-same-length-2
-same-length-2 c = search rules
+same_length_2 : tie.Need-same-length-2
+same_length_2 c = search rules
 
-returns-2 : tie.Need-returns-2
-returns-2 c = (
-  said bytesAnswer writeSaid c.before.written.given.1 c.before.before.before.before.before.write-with.ensures.answer,
+returns_2 : tie.Need-returns-2
+returns_2 c = (
+  said bytes_answer write_said c.before.written.given.1 c.before.before.before.before.before.write-with.ensures.answer,
   c.before.before.before.before.before.write-with.ensures.output,
 )
 
-pub oyk-write-with-spec : {M : Type 1} → statement M
-oyk-write-with-spec = tie.close (tie.spec write-with-requires enum-known-cause refused-requires enum-known-written same_length returns same-length-2 returns-2)
+pub oyk_write_with_spec : {M : Type 1} → statement M
+oyk_write_with_spec = tie.close (tie.spec write_with_requires enum_known_cause refused_requires enum_known_written same_length returns same_length_2 returns_2)

@@ -6,11 +6,11 @@ use Rattle.oysterknoll.specs.Answers.{refusing}
 use Rattle.oysterknoll.proofs.refused.Statement.{statement}
 use Rattle.oysterknoll.proofs.refused.Tie as tie
 
-number-of-requires : tie.Need-number-of-requires
-number-of-requires c κs = search rules
+number_of_requires : tie.Need-number-of-requires
+number_of_requires c κs = search rules
 
 returns : tie.Need-returns
 returns c = ap (λ n. refusing n c.before.args.cause.place c.before.args.cause.tag) c.number_of_lem.ensures
 
-pub refused-spec : {M : Type 1} → statement M
-refused-spec = tie.close (tie.spec number-of-requires returns)
+pub refused_spec : {M : Type 1} → statement M
+refused_spec = tie.close (tie.spec number_of_requires returns)

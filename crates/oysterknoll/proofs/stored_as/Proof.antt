@@ -6,8 +6,8 @@ use borrow.Author.Rules.{rules}
 use Rattle.oysterknoll.proofs.stored_as.Statement.{statement}
 use Rattle.oysterknoll.proofs.stored_as.Tie as tie
 
-unfixed-as-requires : tie.Need-unfixed-as-requires
-unfixed-as-requires c κs = search rules
+unfixed_as_requires : tie.Need-unfixed-as-requires
+unfixed_as_requires c κs = search rules
 
 returns : tie.Need-returns
 returns c = c.unfixed-as.ensures ∙ rw (eq-eqb _ _ c.before.if1.true)
@@ -15,30 +15,30 @@ returns c = c.unfixed-as.ensures ∙ rw (eq-eqb _ _ c.before.if1.true)
 enum_told : tie.Need-enum-told
 enum_told c = search rules
 
-enum-told-2 : tie.Need-enum-told-2
-enum-told-2 c = search rules
+enum_told_2 : tie.Need-enum-told-2
+enum_told_2 c = search rules
 
-enum-told-3 : tie.Need-enum-told-3
-enum-told-3 c = search rules
+enum_told_3 : tie.Need-enum-told-3
+enum_told_3 c = search rules
 
-returns-2 : tie.Need-returns-2
-returns-2 c = rw (ne_eqb _ _ c.before.before.if1.false, c.enum_told.given.1)
+returns_2 : tie.Need-returns-2
+returns_2 c = rw (ne_eqb _ _ c.before.before.if1.false, c.enum_told.given.1)
 
-returns-3 : tie.Need-returns-3
-returns-3 c = rw (ne_eqb _ _ c.before.before.if1.false, c.enum-told2.given.1)
+returns_3 : tie.Need-returns-3
+returns_3 c = rw (ne_eqb _ _ c.before.before.if1.false, c.enum-told2.given.1)
 
-returns-4 : tie.Need-returns-4
-returns-4 c = rw (ne_eqb _ _ c.before.before.if1.false, c.enum-told3.given.1)
+returns_4 : tie.Need-returns-4
+returns_4 c = rw (ne_eqb _ _ c.before.before.if1.false, c.enum-told3.given.1)
 
-pub stored-as-spec : {M : Type 1} → statement M
-stored-as-spec =
+pub stored_as_spec : {M : Type 1} → statement M
+stored_as_spec =
     tie.close
     (tie.spec
-    unfixed-as-requires
+    unfixed_as_requires
     returns
     enum_told
-    enum-told-2
-    enum-told-3
-    returns-2
-    returns-3
-    returns-4)
+    enum_told_2
+    enum_told_3
+    returns_2
+    returns_3
+    returns_4)

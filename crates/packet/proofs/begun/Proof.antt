@@ -9,25 +9,25 @@ use Rattle.packet.proofs.framed.Reads as framed-reads
 use Rattle.packet.proofs.unframed.Reads as unframed-reads
 
 -- src/lib.rt:641:8
-is-good-requires : tie.Need-is-good-requires
-is-good-requires c κs = search rules
+is_good_requires : tie.Need-is-good-requires
+is_good_requires c κs = search rules
 
 -- src/lib.rt:642:9
-framed-requires : tie.Need-framed-requires
-framed-requires c κs = search rules
+framed_requires : tie.Need-framed-requires
+framed_requires c κs = search rules
 
 -- src/lib.rt:642:9
 returns : tie.Need-returns
 returns c = c.framed.ensures ∙ sym (rw (sym c.before.before.is-good.ensures ∙ c.before.if1.true))
 
 -- src/lib.rt:644:5
-unframed-requires : tie.Need-unframed-requires
-unframed-requires c κs = search rules
+unframed_requires : tie.Need-unframed-requires
+unframed_requires c κs = search rules
 
 -- src/lib.rt:638:1
-returns-2 : tie.Need-returns-2
-returns-2 c = c.unframed.ensures ∙ sym (rw (sym c.before.before.is-good.ensures ∙ c.before.if1.false))
+returns_2 : tie.Need-returns-2
+returns_2 c = c.unframed.ensures ∙ sym (rw (sym c.before.before.is-good.ensures ∙ c.before.if1.false))
 
-pub begun-spec : {M : Type 1} → statement M
-begun-spec =
-    tie.close (tie.spec is-good-requires framed-requires returns unframed-requires returns-2)
+pub begun_spec : {M : Type 1} → statement M
+begun_spec =
+    tie.close (tie.spec is_good_requires framed_requires returns unframed_requires returns_2)

@@ -3,56 +3,56 @@
 use mathlib.Core.Path.{◌≡◌, sym, ap, ◌∙◌}
 use native.Mathlib.Omega.{arith}
 use Rattle.refusal.specs.Answer.{given}
-use Rattle.packet.specs.Ends.{rightEnds}
-use Rattle.packet.specs.Said.{rightSaid}
-use Rattle.packet.specs.code.Concluded.{endsBy}
-use Rattle.packet.proofs.Closing.{ends-right, closed-ends, closed-sum}
+use Rattle.packet.specs.Ends.{right_ends}
+use Rattle.packet.specs.Said.{right_said}
+use Rattle.packet.specs.code.Concluded.{ends_by}
+use Rattle.packet.proofs.Closing.{ends_right, closed_ends, closed_sum}
 use borrow.Author.Rules.{rules}
 use Rattle.packet.proofs.closed.Statement.{statement}
 use Rattle.packet.proofs.closed.Tie as tie
 
 -- the ends by the code's test
 ended : (c : tie.After-check-ends) → (let a = c.before.before.before.args in
-    rightSaid c.check-ends.result ≡ rightEnds (endsBy a.packet.now a.from a.last))
-ended c = c.check-ends.ensures ∙ ap rightEnds c.before.ends_of.ensures
+    right_said c.check-ends.result ≡ right_ends (ends_by a.packet.now a.from a.last))
+ended c = c.check-ends.ensures ∙ ap right_ends c.before.ends_of.ensures
 
 right : (c : tie.After-enum-told) → (let a = c.before.before.before.before.before.args in
-    rightEnds (endsBy a.packet.now a.from a.last) ≡ given tt)
-right c = sym (ended c.before.before) ∙ ap rightSaid c.enum_told.given.1
+    right_ends (ends_by a.packet.now a.from a.last) ≡ given tt)
+right c = sym (ended c.before.before) ∙ ap right_said c.enum_told.given.1
 
-ends-of-requires : tie.Need-ends-of-requires
-ends-of-requires c κs = search rules
+ends_of_requires : tie.Need-ends-of-requires
+ends_of_requires c κs = search rules
 
-check-ends-requires : tie.Need-check-ends-requires
-check-ends-requires c κs = search rules
+check_ends_requires : tie.Need-check-ends-requires
+check_ends_requires c κs = search rules
 
-enum-known-refusal : tie.Need-enum-known-refusal
-enum-known-refusal c = search rules
+enum_known_refusal : tie.Need-enum-known-refusal
+enum_known_refusal c = search rules
 
 enum_told : tie.Need-enum-told
 enum_told c = search rules
 
-is-summed-requires : tie.Need-is-summed-requires
-is-summed-requires c κs = omega (arith, (ends-right _ (right c)).pair, c.before.before.before.before.before.requires)
+is_summed_requires : tie.Need-is-summed-requires
+is_summed_requires c κs = omega (arith, (ends_right _ (right c)).pair, c.before.before.before.before.before.requires)
 
 returns : tie.Need-returns
-returns c = sym (closed-sum _ _ _ (right c.before.before) ∙ rw (sym c.before.is-summed.ensures ∙ c.if1.true))
+returns c = sym (closed_sum _ _ _ (right c.before.before) ∙ rw (sym c.before.is-summed.ensures ∙ c.if1.true))
 
-returns-2 : tie.Need-returns-2
-returns-2 c = sym (closed-ends _ _ _ _ _ _ (sym (ended c.before.before.before) ∙ ap rightSaid c.before.refusal.given.1))
+returns_2 : tie.Need-returns-2
+returns_2 c = sym (closed_ends _ _ _ _ _ _ (sym (ended c.before.before.before) ∙ ap right_said c.before.refusal.given.1))
 
-returns-3 : tie.Need-returns-3
-returns-3 c = sym (closed-sum _ _ _ (right c.before.before) ∙ rw (sym c.before.is-summed.ensures ∙ c.if1.false))
+returns_3 : tie.Need-returns-3
+returns_3 c = sym (closed_sum _ _ _ (right c.before.before) ∙ rw (sym c.before.is-summed.ensures ∙ c.if1.false))
 
-pub closed-spec : {M : Type 1} → statement M
-closed-spec =
+pub closed_spec : {M : Type 1} → statement M
+closed_spec =
     tie.close
     (tie.spec
-    ends-of-requires
-    check-ends-requires
-    enum-known-refusal
+    ends_of_requires
+    check_ends_requires
+    enum_known_refusal
     enum_told
-    is-summed-requires
+    is_summed_requires
     returns
-    returns-2
-    returns-3)
+    returns_2
+    returns_3)

@@ -4,9 +4,9 @@ use mathlib.Core.Path.{◌≡◌, sym, ap, ◌∙◌}
 use native.Mathlib.Omega.{arith}
 use Rattle.number.specs.Stored.{Bytes}
 use Rattle.tagset.proofs.Laws.{Words}
-use Rattle.packet.specs.Said.{rightSaid}
-use Rattle.packet.specs.code.Concluded.{headerIn, closedBy}
-use Rattle.packet.proofs.Concluding.{last-inside, places-inside, right_by, clean-right}
+use Rattle.packet.specs.Said.{right_said}
+use Rattle.packet.specs.code.Concluded.{header_in, closed_by}
+use Rattle.packet.proofs.Concluding.{last_inside, places_inside, right_by, clean_right}
 use borrow.Author.Rules.{rules}
 use Rattle.packet.proofs.concluded.Statement.{statement}
 use Rattle.packet.proofs.concluded.Tie as tie
@@ -19,59 +19,59 @@ bytes c = record { byte = λ i. (c.before.shared-slice-known.given i).fits }
 
 -- first, last and sum, by the header that was found
 ended : (c : tie.After-closed) → (let a = c.before.before.before.args in
-    rightSaid c.closed.result ≡ closedBy a.packet.now a.from (headerIn a.packet.now a.passed.last))
-ended c = c.closed.ensures ∙ ap (closedBy _ _) c.before.header_at.ensures
+    right_said c.closed.result ≡ closed_by a.packet.now a.from (header_in a.packet.now a.passed.last))
+ended c = c.closed.ensures ∙ ap (closed_by _ _) c.before.header_at.ensures
 
-header-at-requires : tie.Need-header-at-requires
-header-at-requires c κs = search rules
+header_at_requires : tie.Need-header-at-requires
+header_at_requires c κs = search rules
 
-closed-requires : tie.Need-closed-requires
-closed-requires c κs = rw c.header_at.ensures (last-inside _ (words c) _ (bytes c) _ _ c.before.before.requires)
+closed_requires : tie.Need-closed-requires
+closed_requires c κs = rw c.header_at.ensures (last_inside _ (words c) _ (bytes c) _ _ c.before.before.requires)
 
-enum-known-refusal : tie.Need-enum-known-refusal
-enum-known-refusal c = search rules
+enum_known_refusal : tie.Need-enum-known-refusal
+enum_known_refusal c = search rules
 
 enum_told : tie.Need-enum-told
 enum_told c = search rules
 
-is-clean-requires : tie.Need-is-clean-requires
-is-clean-requires c κs =
-    let d = c.before.before.before in places-inside _ (words d) _ (bytes d) _ _ d.before.before.requires
+is_clean_requires : tie.Need-is-clean-requires
+is_clean_requires c κs =
+    let d = c.before.before.before in places_inside _ (words d) _ (bytes d) _ _ d.before.before.requires
 
 returns : tie.Need-returns
 returns c =
     let d = c.before.before.before.before.before in
     let w = d.before.before.requires in
     sym (right_by _ (words d) _ (bytes d) _ _ w
-    ∙ rw (sym (ended c.before.before.before.before) ∙ ap rightSaid c.before.before.enum_told.given.1)
-    (clean-right _ (words d) _ (bytes d) _ _ w (sym c.before.is-clean.ensures ∙ c.if1.true)))
+    ∙ rw (sym (ended c.before.before.before.before) ∙ ap right_said c.before.before.enum_told.given.1)
+    (clean_right _ (words d) _ (bytes d) _ _ w (sym c.before.is-clean.ensures ∙ c.if1.true)))
 
-judged-requires : tie.Need-judged-requires
-judged-requires c κs =
+judged_requires : tie.Need-judged-requires
+judged_requires c κs =
     let w = c.before.before.before.before.before.before.before.requires in record { items = w.items; walked = w.walked }
 
-returns-2 : tie.Need-returns-2
-returns-2 c =
+returns_2 : tie.Need-returns-2
+returns_2 c =
     let d = c.before.before.before.before in
-    let e = sym (ended c.before.before.before) ∙ ap rightSaid c.before.refusal.given.1 in
+    let e = sym (ended c.before.before.before) ∙ ap right_said c.before.refusal.given.1 in
     sym (right_by _ (words d) _ (bytes d) _ _ d.before.before.requires ∙ rw e)
 
-returns-3 : tie.Need-returns-3
-returns-3 c =
+returns_3 : tie.Need-returns-3
+returns_3 c =
     let d = c.before.before.before.before.before.before in
-    let e = sym (ended c.before.before.before.before.before) ∙ ap rightSaid c.before.before.before.enum_told.given.1 in
+    let e = sym (ended c.before.before.before.before.before) ∙ ap right_said c.before.before.before.enum_told.given.1 in
     c.judged.ensures ∙ sym (right_by _ (words d) _ (bytes d) _ _ d.before.before.requires ∙ rw e)
 
-pub concluded-spec : {M : Type 1} → statement M
-concluded-spec =
+pub concluded_spec : {M : Type 1} → statement M
+concluded_spec =
     tie.close
     (tie.spec
-    header-at-requires
-    closed-requires
-    enum-known-refusal
+    header_at_requires
+    closed_requires
+    enum_known_refusal
     enum_told
-    is-clean-requires
+    is_clean_requires
     returns
-    judged-requires
-    returns-2
-    returns-3)
+    judged_requires
+    returns_2
+    returns_3)

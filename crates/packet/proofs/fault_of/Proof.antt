@@ -4,17 +4,17 @@ use borrow.Author.Rules.{rules}
 use Rattle.packet.proofs.fault_of.Statement.{statement}
 use Rattle.packet.proofs.fault_of.Tie as tie
 
-allows-size-requires : tie.Need-allows-size-requires
-allows-size-requires c κs = search rules
+allows_size_requires : tie.Need-allows-size-requires
+allows_size_requires c κs = search rules
 
 returns : tie.Need-returns
 returns c = rw (← c.before.before.allows-size.ensures, c.before.if1.true, c.if2.true)
 
-allows-code-requires : tie.Need-allows-code-requires
-allows-code-requires c κs = search rules
+allows_code_requires : tie.Need-allows-code-requires
+allows_code_requires c κs = search rules
 
-returns-2 : tie.Need-returns-2
-returns-2 c =
+returns_2 : tie.Need-returns-2
+returns_2 c =
     rw (
       ← c.before.before.before.before.allows-size.ensures,
       c.before.before.before.if1.true,
@@ -23,8 +23,8 @@ returns-2 c =
       c.if3.true,
     )
 
-returns-3 : tie.Need-returns-3
-returns-3 c =
+returns_3 : tie.Need-returns-3
+returns_3 c =
     rw (
       ← c.before.before.before.before.allows-size.ensures,
       c.before.before.before.if1.true,
@@ -33,10 +33,10 @@ returns-3 c =
       c.if3.false,
     )
 
-returns-4 : tie.Need-returns-4
-returns-4 c = rw (← c.before.allows-size.ensures, c.if1.false)
+returns_4 : tie.Need-returns-4
+returns_4 c = rw (← c.before.allows-size.ensures, c.if1.false)
 
-pub fault-of-spec : {M : Type 1} → statement M
-fault-of-spec =
+pub fault_of_spec : {M : Type 1} → statement M
+fault_of_spec =
     tie.close
-    (tie.spec allows-size-requires returns allows-code-requires returns-2 returns-3 returns-4)
+    (tie.spec allows_size_requires returns allows_code_requires returns_2 returns_3 returns_4)

@@ -1,21 +1,21 @@
 -- `packet::is_short` meets its contract.
 -- Assumes nothing.
 use Rattle.base.proofs.Cases.{cases}
-use Rattle.packet.specs.code.Headers.{shortForms}
+use Rattle.packet.specs.code.Headers.{short_forms}
 use Rattle.packet.proofs.is_short.Statement.{statement}
 use Rattle.packet.proofs.is_short.Tie as tie
 
 returns : tie.Need-returns
-unfolding shortForms
+unfolding short_forms
 returns c = search cases
 
-returns-2 : tie.Need-returns-2
-unfolding shortForms
-returns-2 c = search cases
+returns_2 : tie.Need-returns-2
+unfolding short_forms
+returns_2 c = search cases
 
-returns-3 : tie.Need-returns-3
-unfolding shortForms
-returns-3 c = search cases
+returns_3 : tie.Need-returns-3
+unfolding short_forms
+returns_3 c = search cases
 
-pub is-short-spec : {M : Type 1} → statement M
-is-short-spec = tie.close (tie.spec returns returns-2 returns-3)
+pub is_short_spec : {M : Type 1} → statement M
+is_short_spec = tie.close (tie.spec returns returns_2 returns_3)

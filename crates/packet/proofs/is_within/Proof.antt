@@ -7,5 +7,5 @@ use Rattle.packet.proofs.is_within.Tie as tie
 returns : tie.Need-returns
 returns c = refl
 
-pub is-within-spec : {M : Type 1} → statement M
-is-within-spec = tie.close (tie.spec returns)
+pub is_within_spec : {M : Type 1} → statement M
+is_within_spec = tie.close (tie.spec returns)

@@ -6,120 +6,120 @@ use native.Mathlib.Omega.{arith}
 use lib.ListN.{length}
 use Rattle.refusal.specs.Answer.{given}
 use Rattle.tagset.proofs.Laws.{Words}
-use Rattle.packet.specs.Said.{header_at, stepSaid, faultSaid}
-use Rattle.packet.proofs.Ahead.{not-refused}
-use Rattle.packet.proofs.Judging.{Judges, judges-begin, judges-end, judges-wrong, judges-clean}
-use Rattle.packet.proofs.Walks.{Lies, header-lies}
+use Rattle.packet.specs.Said.{header_at, step_said, fault_said}
+use Rattle.packet.proofs.Ahead.{not_refused}
+use Rattle.packet.proofs.Judging.{Judges, judges_begin, judges_end, judges_wrong, judges_clean}
+use Rattle.packet.proofs.Walks.{Lies, header_lies}
 use borrow.Author.Rules.{rules}
 use Rattle.packet.proofs.judged.Statement.{statement}
 use Rattle.packet.proofs.judged.Tie as tie
 
-abbrev invariant-loop : tie.invariant-loop
-invariant-loop packet from known column seen₀ here₀ seen here = Judges known packet from here seen
+abbrev invariant_loop : tie.invariant-loop
+invariant_loop packet from known column seen₀ here₀ seen here = Judges known packet from here seen
 
-abbrev decreases-loop : tie.decreases-loop
-decreases-loop packet from known column seen₀ here₀ seen here = length packet - here
+abbrev decreases_loop : tie.decreases-loop
+decreases_loop packet from known column seen₀ here₀ seen here = length packet - here
 
-words : (c : tie.At-loop invariant-loop decreases-loop) → Words c.before.before.before.args.known
+words : (c : tie.At-loop invariant_loop decreases_loop) → Words c.before.before.before.args.known
 words c = record { low64 = omega (arith, c.before.before.before.well-formed); high64 = omega (arith, c.before.before.before.well-formed) }
 
 -- the item found at the loop's place
-found : (c : tie.After-item invariant-loop decreases-loop)
+found : (c : tie.After-item invariant_loop decreases_loop)
     → header_at c.before.before.before.before.before.before.before.args.packet.now c.before.before.before.before.loop.here
     ≡ given c.item.given.0.0
-found c = sym c.before.before.item-at.ensures ∙ ap stepSaid c.item.given.1
+found c = sym c.before.before.item-at.ensures ∙ ap step_said c.item.given.1
 
-lies : (c : tie.After-item invariant-loop decreases-loop)
+lies : (c : tie.After-item invariant_loop decreases_loop)
     → Lies c.before.before.before.before.before.before.before.args.packet.now c.before.before.before.before.loop.here c.item.given.0.0
-lies c = header-lies _ _ (record { byte = λ i. (c.before.before.before.before.before.before.shared-slice-known.given i).fits }) _ (found c)
+lies c = header_lies _ _ (record { byte = λ i. (c.before.before.before.before.before.before.shared-slice-known.given i).fits }) _ (found c)
 
-shapes-requires : tie.Need-shapes-requires invariant-loop decreases-loop
-shapes-requires c κs = search rules
+shapes_requires : tie.Need-shapes-requires invariant_loop decreases_loop
+shapes_requires c κs = search rules
 
-loop-holds : tie.Need-loop-init invariant-loop decreases-loop
-loop-holds c = judges-begin _ _ _ c.before.before.requires
+loop_holds : tie.Need-loop-init invariant_loop decreases_loop
+loop_holds c = judges_begin _ _ _ c.before.before.requires
 
-item-at-requires : tie.Need-item-at-requires invariant-loop decreases-loop
-item-at-requires c κs = search rules
+item_at_requires : tie.Need-item-at-requires invariant_loop decreases_loop
+item_at_requires c κs = search rules
 
-enum-known-refusal : tie.Need-enum-known-refusal invariant-loop decreases-loop
-enum-known-refusal c = search rules
+enum_known_refusal : tie.Need-enum-known-refusal invariant_loop decreases_loop
+enum_known_refusal c = search rules
 
-returns : tie.Need-returns invariant-loop decreases-loop
-returns c = not-refused _ _ c.before.before.before.before.before.loop.invariant.ahead c.before.before.before.before.loop-test.true _ _ _
-    (sym c.before.before.before.item-at.ensures ∙ ap stepSaid c.before.refusal.given.1)
+returns : tie.Need-returns invariant_loop decreases_loop
+returns c = not_refused _ _ c.before.before.before.before.before.loop.invariant.ahead c.before.before.before.before.loop-test.true _ _ _
+    (sym c.before.before.before.item-at.ensures ∙ ap step_said c.before.refusal.given.1)
 
-enum-known-item : tie.Need-enum-known-item invariant-loop decreases-loop
-enum-known-item c = search rules
+enum_known_item : tie.Need-enum-known-item invariant_loop decreases_loop
+enum_known_item c = search rules
 
-fault-at-requires : tie.Need-fault-at-requires invariant-loop decreases-loop
-fault-at-requires c κs = (c.before.before.before.before.before.before.before.shapes.ensures, (lies c.before.before).inside)
+fault_at_requires : tie.Need-fault-at-requires invariant_loop decreases_loop
+fault_at_requires c κs = (c.before.before.before.before.before.before.before.shapes.ensures, (lies c.before.before).inside)
 
-enum-known-reason : tie.Need-enum-known-reason invariant-loop decreases-loop
-enum-known-reason c = search rules
+enum_known_reason : tie.Need-enum-known-reason invariant_loop decreases_loop
+enum_known_reason c = search rules
 
-returns-2 : tie.Need-returns-2 invariant-loop decreases-loop
-returns-2 c =
+returns_2 : tie.Need-returns-2 invariant_loop decreases_loop
+returns_2 c =
     let l = c.before.before.before.before.before.before.before.before.before.before in
     let f = c.before.before.before.before.before.before in
-    judges-wrong _ (words l) _ _ _ _ l.loop.invariant f.before.before.before.loop-test.true _ (found f) _
-    (ap faultSaid (sym c.before.reason.given.1) ∙ c.before.before.before.fault-at.ensures)
+    judges_wrong _ (words l) _ _ _ _ l.loop.invariant f.before.before.before.loop-test.true _ (found f) _
+    (ap fault_said (sym c.before.reason.given.1) ∙ c.before.before.before.fault-at.ensures)
 
-enum_told : tie.Need-enum-told invariant-loop decreases-loop
+enum_told : tie.Need-enum-told invariant_loop decreases_loop
 enum_told c = search rules
 
-with-tag-requires : tie.Need-with-tag-requires invariant-loop decreases-loop
-with-tag-requires c κs = search rules
+with_tag_requires : tie.Need-with-tag-requires invariant_loop decreases_loop
+with_tag_requires c κs = search rules
 
-add-here : tie.Need-overflow-add-here invariant-loop decreases-loop
-add-here c =
+add_here : tie.Need-overflow-add-here invariant_loop decreases_loop
+add_here c =
     let f = c.before.before.before.before.before.before.before in
     omega (arith, (lies f).inside, f.before.before.before.before.before.before.before.well-formed)
 
-loop-less : tie.Need-loop-smaller invariant-loop decreases-loop
-loop-less c = omega (arith, lies c.before.before.before.before.before.before.before)
+loop_less : tie.Need-loop-smaller invariant_loop decreases_loop
+loop_less c = omega (arith, lies c.before.before.before.before.before.before.before)
 
-loop-again : tie.Need-loop-preserved invariant-loop decreases-loop
-loop-again c =
+loop_again : tie.Need-loop-preserved invariant_loop decreases_loop
+loop_again c =
     let l = c.before.before.before.before.before.before.before.before.before.before.before in
     let f = c.before.before.before.before.before.before.before in
     rw c.before.with_tag.ensures
-    (judges-clean _ (words l) _ _ _ _ l.loop.invariant f.before.before.before.loop-test.true _ (found f)
-    (ap faultSaid (sym c.before.before.enum_told.given.1) ∙ c.before.before.before.before.fault-at.ensures))
+    (judges_clean _ (words l) _ _ _ _ l.loop.invariant f.before.before.before.loop-test.true _ (found f)
+    (ap fault_said (sym c.before.before.enum_told.given.1) ∙ c.before.before.before.before.fault-at.ensures))
 
-has-requires : tie.Need-has-requires invariant-loop decreases-loop
-has-requires c κs = search rules
+has_requires : tie.Need-has-requires invariant_loop decreases_loop
+has_requires c κs = search rules
 
-returns-3 : tie.Need-returns-3 invariant-loop decreases-loop
-returns-3 c =
+returns_3 : tie.Need-returns-3 invariant_loop decreases_loop
+returns_3 c =
     let l = c.before.before.before in
-    rw (sym c.before.has.ensures ∙ c.if1.true) at (judges-end _ (words l) _ _ _ _ l.loop.invariant c.before.before.loop-test.false)
+    rw (sym c.before.has.ensures ∙ c.if1.true) at (judges_end _ (words l) _ _ _ _ l.loop.invariant c.before.before.loop-test.false)
 
-returns-4 : tie.Need-returns-4 invariant-loop decreases-loop
-returns-4 c =
+returns_4 : tie.Need-returns-4 invariant_loop decreases_loop
+returns_4 c =
     let l = c.before.before.before in
-    rw (sym c.before.has.ensures ∙ c.if1.false) at (judges-end _ (words l) _ _ _ _ l.loop.invariant c.before.before.loop-test.false)
+    rw (sym c.before.has.ensures ∙ c.if1.false) at (judges_end _ (words l) _ _ _ _ l.loop.invariant c.before.before.loop-test.false)
 
-pub judged-spec : {M : Type 1} → statement M
-judged-spec =
+pub judged_spec : {M : Type 1} → statement M
+judged_spec =
     tie.close
     (tie.spec
-    invariant-loop
-    decreases-loop
-    shapes-requires
-    loop-holds
-    item-at-requires
-    enum-known-refusal
+    invariant_loop
+    decreases_loop
+    shapes_requires
+    loop_holds
+    item_at_requires
+    enum_known_refusal
     returns
-    enum-known-item
-    fault-at-requires
-    enum-known-reason
-    returns-2
+    enum_known_item
+    fault_at_requires
+    enum_known_reason
+    returns_2
     enum_told
-    with-tag-requires
-    add-here
-    loop-less
-    loop-again
-    has-requires
-    returns-3
-    returns-4)
+    with_tag_requires
+    add_here
+    loop_less
+    loop_again
+    has_requires
+    returns_3
+    returns_4)

@@ -4,50 +4,50 @@ use Prim.Native.Nat.{◌+◌}
 use native.Mathlib.Omega.{arith}
 use mathlib.Core.Path.{ap, sym, ◌∙◌}
 use lib.ListN.{get_or}
-use Rattle.packet.proofs.Glancing.{below-tag}
+use Rattle.packet.proofs.Glancing.{below_tag}
 use borrow.Author.Rules.{rules}
 use Rattle.packet.proofs.mask_at.Statement.{statement}
 use Rattle.packet.proofs.mask_at.Tie as tie
 
-shared-slice-read-tag : tie.Need-shared-slice-read-tag
-shared-slice-read-tag c = search rules
+shared_slice_read_tag : tie.Need-shared-slice-read-tag
+shared_slice_read_tag c = search rules
 
-add-is-close : tie.Need-overflow-add-is-close
-add-is-close c = search rules
+add_is_close : tie.Need-overflow-add-is-close
+add_is_close c = search rules
 
-shared-slice-read-is-close : tie.Need-shared-slice-read-is-close
-shared-slice-read-is-close c = search rules
+shared_slice_read_is_close : tie.Need-shared-slice-read-is-close
+shared_slice_read_is_close c = search rules
 
-is-close-requires : tie.Need-is-close-requires
-is-close-requires c κs = search rules
+is_close_requires : tie.Need-is-close-requires
+is_close_requires c κs = search rules
 
 returns : tie.Need-returns
 returns c = rw (sym c.before.is-close.ensures ∙ c.if1.true)
 
-cast-result : tie.Need-overflow-cast-result
-cast-result c =
+cast_result : tie.Need-overflow-cast-result
+cast_result c =
     let a = c.before.before.before.before.before.args in
-    omega (arith, below-tag (get_or a.packet.now a.at 0) (get_or a.packet.now (a.at + 1) 0) (sym c.before.is-close.ensures ∙ c.if1.false))
+    omega (arith, below_tag (get_or a.packet.now a.at 0) (get_or a.packet.now (a.at + 1) 0) (sym c.before.is-close.ensures ∙ c.if1.false))
 
-element-copy-out-result : tie.Need-element-copy-out-result
-element-copy-out-result c =
+element_copy_out_result : tie.Need-element-copy-out-result
+element_copy_out_result c =
     let a = c.before.before.before.before.before.args in
-    below-tag (get_or a.packet.now a.at 0) (get_or a.packet.now (a.at + 1) 0) (sym c.before.is-close.ensures ∙ c.if1.false)
+    below_tag (get_or a.packet.now a.at 0) (get_or a.packet.now (a.at + 1) 0) (sym c.before.is-close.ensures ∙ c.if1.false)
 
-returns-2 : tie.Need-returns-2
-returns-2 c =
+returns_2 : tie.Need-returns-2
+returns_2 c =
     let s = c.before.before.before.before.before.before in
     rw (sym c.before.before.is-close.ensures ∙ c.before.if1.false) (ap (λ l. get_or l (get_or s.args.packet.now s.args.at 0) 0) s.requires.0)
 
-pub mask-at-spec : {M : Type 1} → statement M
-mask-at-spec =
+pub mask_at_spec : {M : Type 1} → statement M
+mask_at_spec =
     tie.close
     (tie.spec
-    shared-slice-read-tag
-    add-is-close
-    shared-slice-read-is-close
-    is-close-requires
+    shared_slice_read_tag
+    add_is_close
+    shared_slice_read_is_close
+    is_close_requires
     returns
-    cast-result
-    element-copy-out-result
-    returns-2)
+    cast_result
+    element_copy_out_result
+    returns_2)

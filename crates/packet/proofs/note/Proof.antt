@@ -1,51 +1,51 @@
 -- `packet::note` meets its contract.
 -- Assumes nothing.
-use Rattle.packet.proofs.Noting.{note-tag}
+use Rattle.packet.proofs.Noting.{note_tag}
 use borrow.Author.Rules.{rules}
 use Rattle.packet.proofs.note.Statement.{statement}
 use Rattle.packet.proofs.note.Tie as tie
 
-mul-known : tie.Need-overflow-mul-known
-mul-known c = search rules
+mul_known : tie.Need-overflow-mul-known
+mul_known c = search rules
 
-element-copy-out-known : tie.Need-element-copy-out-known
-element-copy-out-known c = search rules
+element_copy_out_known : tie.Need-element-copy-out-known
+element_copy_out_known c = search rules
 
 shr_known : tie.Need-overflow-shr-known
 shr_known c = search rules
 
-cast-noted : tie.Need-overflow-cast-noted
-cast-noted c = search rules
+cast_noted : tie.Need-overflow-cast-noted
+cast_noted c = search rules
 
-mul-present : tie.Need-overflow-mul-present
-mul-present c = search rules
+mul_present : tie.Need-overflow-mul-present
+mul_present c = search rules
 
-element-copy-out-present : tie.Need-element-copy-out-present
-element-copy-out-present c = search rules
+element_copy_out_present : tie.Need-element-copy-out-present
+element_copy_out_present c = search rules
 
-shl-present : tie.Need-overflow-shl-present
-shl-present c = search rules
+shl_present : tie.Need-overflow-shl-present
+shl_present c = search rules
 
-mul-present-2 : tie.Need-overflow-mul-present-2
-mul-present-2 c = search rules
+mul_present_2 : tie.Need-overflow-mul-present-2
+mul_present_2 c = search rules
 
-element-write-present : tie.Need-element-write-present
-element-write-present c = search rules
+element_write_present : tie.Need-element-write-present
+element_write_present c = search rules
 
 returns : tie.Need-returns
-returns c = let k = c.before.before.requires in note-tag _ _ _ _ k.0 k.1 k.2
+returns c = let k = c.before.before.requires in note_tag _ _ _ _ k.0 k.1 k.2
 
-pub note-spec : {M : Type 1} → statement M
-note-spec =
+pub note_spec : {M : Type 1} → statement M
+note_spec =
     tie.close
     (tie.spec
-    mul-known
-    element-copy-out-known
+    mul_known
+    element_copy_out_known
     shr_known
-    cast-noted
-    mul-present
-    element-copy-out-present
-    shl-present
-    mul-present-2
-    element-write-present
+    cast_noted
+    mul_present
+    element_copy_out_present
+    shl_present
+    mul_present_2
+    element_write_present
     returns)

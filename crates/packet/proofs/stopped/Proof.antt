@@ -4,10 +4,10 @@ use Prim.Native.Nat.{ℕ, suc, ◌+◌, ◌-◌, ◌≤◌}
 use mathlib.Core.Path.{◌≡◌, sym, ap, ◌∙◌}
 use native.Mathlib.Omega.{arith}
 use lib.ListN.{drop}
-use Rattle.refusal.proofs.Answers.{not-given}
+use Rattle.refusal.proofs.Answers.{not_given}
 use Rattle.packet.specs.Pieces.{walk}
-use Rattle.packet.specs.Said.{stepSaid}
-use Rattle.packet.proofs.Walks.{walk-full, walk_refused}
+use Rattle.packet.specs.Said.{step_said}
+use Rattle.packet.proofs.Walks.{walk_full, walk_refused}
 use borrow.Author.Rules.{rules}
 use Rattle.packet.proofs.stopped.Statement.{statement}
 use Rattle.packet.proofs.stopped.Tie as tie
@@ -20,30 +20,30 @@ returns : tie.Need-returns
 returns c =
     let k = c.before.before in
     let e : 128 - k.args.count ≡ 0 = omega (arith, c.if1.true) in
-    ap (λ n. walk n k.args.here (drop k.args.here k.args.packet.now)) e ∙ walk-full _ _ k.requires.before
+    ap (λ n. walk n k.args.here (drop k.args.here k.args.packet.now)) e ∙ walk_full _ _ k.requires.before
 
-any-item-at-requires : tie.Need-any-item-at-requires
-any-item-at-requires c κs = search rules
+any_item_at_requires : tie.Need-any-item-at-requires
+any_item_at_requires c κs = search rules
 
-enum-known-refusal : tie.Need-enum-known-refusal
-enum-known-refusal c = search rules
+enum_known_refusal : tie.Need-enum-known-refusal
+enum_known_refusal c = search rules
 
 enum_told : tie.Need-enum-told
 enum_told c = search rules
 
-returns-2 : tie.Need-returns-2
-returns-2 c =
+returns_2 : tie.Need-returns-2
+returns_2 c =
     let k = c.before.before.before.before.before.before in
     let e = left k.args.count k.requires.few c.before.before.before.before.if1.false in
     ap (λ n. walk n k.args.here (drop k.args.here k.args.packet.now)) e
-    ∙ walk_refused _ _ k.requires.before _ _ _ _ (sym c.before.before.before.any-item-at.ensures ∙ ap stepSaid c.before.refusal.given.1)
+    ∙ walk_refused _ _ k.requires.before _ _ _ _ (sym c.before.before.before.any-item-at.ensures ∙ ap step_said c.before.refusal.given.1)
 
-returns-3 : tie.Need-returns-3
-returns-3 c =
+returns_3 : tie.Need-returns-3
+returns_3 c =
     let n = c.before.before.before.before.before.requires.none c.before.before.before.if1.false in
-    not-given (sym n.refuses ∙ (sym c.before.before.any-item-at.ensures ∙ ap stepSaid c.enum_told.given.1))
+    not_given (sym n.refuses ∙ (sym c.before.before.any-item-at.ensures ∙ ap step_said c.enum_told.given.1))
 
-pub stopped-spec : {M : Type 1} → statement M
-stopped-spec =
+pub stopped_spec : {M : Type 1} → statement M
+stopped_spec =
     tie.close
-    (tie.spec returns any-item-at-requires enum-known-refusal enum_told returns-2 returns-3)
+    (tie.spec returns any_item_at_requires enum_known_refusal enum_told returns_2 returns_3)

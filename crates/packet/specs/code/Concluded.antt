@@ -2,17 +2,17 @@
 use Rattle.std.specs.Prelude.{ℕ, ◌-◌, ◌≤◌, ◌≡◌, Bool, true, not, cond, ◌&&◌, List, [], eqb, ltb, length, take, drop, get_or}
 use Rattle.refusal.specs.Answer.{Answer, given, refused, refusal, map, then, or_else}
 use Rattle.number.specs.Stored.{value_of}
-use Rattle.checksum.specs.Sum.{checksumOf}
-use Rattle.tagset.specs.Sets.{noTags, holds, size}
+use Rattle.checksum.specs.Sum.{checksum_of}
+use Rattle.tagset.specs.Sets.{no_tags, holds, size}
 use Rattle.tagset.specs.declared.TagSet.{TagSet}
 use Rattle.knowing.specs.Good.{good}
-use Rattle.catalogue.specs.Shapes.{codeAllowed}
+use Rattle.catalogue.specs.Shapes.{code_allowed}
 use Rattle.packet.specs.Pieces.{Item, walk}
-use Rattle.packet.specs.Ends.{rightEnds}
-use Rattle.packet.specs.Structure.{frame, rightSum, closed}
-use Rattle.packet.specs.Verdict.{judged, body_of, noPlaces, placesFrom}
-use Rattle.packet.specs.Said.{header_at, checkSaid}
-use Rattle.packet.specs.code.Passing.{Kept, freshAt, keptFrom}
+use Rattle.packet.specs.Ends.{right_ends}
+use Rattle.packet.specs.Structure.{frame, right_sum, closed}
+use Rattle.packet.specs.Verdict.{judged, body_of, no_places, places_from}
+use Rattle.packet.specs.Said.{header_at, check_said}
+use Rattle.packet.specs.code.Passing.{Kept, fresh_at, kept_from}
 use Rattle.packet.specs.declared.Accepted.{Accepted}
 use Rattle.packet.specs.declared.Checked.{Checked}
 use Rattle.packet.specs.declared.Ends.{Ends}
@@ -20,65 +20,65 @@ use Rattle.packet.specs.declared.Frame.{Frame}
 use Rattle.packet.specs.declared.Frame.TheVariants as framed
 use Rattle.packet.specs.declared.Header.{Header}
 
-abbrev pub frameSaid : Frame → Answer ℕ
-frameSaid (framed.From at) = given at
-frameSaid (framed.Refused r) = refusal r
+abbrev pub frame_said : Frame → Answer ℕ
+frame_said (framed.From at) = given at
+frame_said (framed.Refused r) = refusal r
 
 -- where the items begin, for a good knowing set
-abbrev pub begunBy : TagSet → List ℕ → Answer ℕ
-begunBy K p = cond (good K) (frame p) (refused 1 0 0)
+abbrev pub begun_by : TagSet → List ℕ → Answer ℕ
+begun_by K p = cond (good K) (frame p) (refused 1 0 0)
 
 -- the header at a place; where there is none, one with nothing in it
 abbrev pub no_header : Header
 no_header = record { tag = 0; start = 0; place = 0; size = 0 }
 
-abbrev pub headerIn : List ℕ → ℕ → Header
-headerIn p at = or_else no_header (λ h. h) (header_at p at)
+abbrev pub header_in : List ℕ → ℕ → Header
+header_in p at = or_else no_header (λ h. h) (header_at p at)
 
 -- first and last, by where the items begin and by the last header
-abbrev pub endsBy : List ℕ → ℕ → Header → Ends
-endsBy p from z = record { start = from; first = (headerIn p from).tag; end = z.start; last = z.tag; size = z.size }
+abbrev pub ends_by : List ℕ → ℕ → Header → Ends
+ends_by p from z = record { start = from; first = (header_in p from).tag; end = z.start; last = z.tag; size = z.size }
 
-abbrev pub summedAt : List ℕ → ℕ → Bool
-summedAt p place = eqb (value_of (take 2 (drop place p))) (checksumOf (take place p))
+abbrev pub summed_at : List ℕ → ℕ → Bool
+summed_at p place = eqb (value_of (take 2 (drop place p))) (checksum_of (take place p))
 
-unfoldable pub closedBy : List ℕ → ℕ → Header → Answer (Unit {0})
-closedBy p from z = then (rightEnds (endsBy p from z)) (λ _. rightSum p z.place (take z.size (drop z.place p)))
+unfoldable pub closed_by : List ℕ → ℕ → Header → Answer (Unit {0})
+closed_by p from z = then (right_ends (ends_by p from z)) (λ _. right_sum p z.place (take z.size (drop z.place p)))
 
 -- the items from a place on
 pub record WalksFrom (p : List ℕ) (from : ℕ) : Type 0 where
   pub items : List Item
   pub walked : walk 128 from (drop from p) ≡ given items
 
-abbrev pub itemsAt : List ℕ → ℕ → List Item
-itemsAt p from = or_else [] (λ is. is) (walk 128 from (drop from p))
+abbrev pub items_at : List ℕ → ℕ → List Item
+items_at p from = or_else [] (λ is. is) (walk 128 from (drop from p))
 
 -- whether something is given
 abbrev pub bare : Answer (List Item) → Answer (Unit {0})
 bare = map (λ _. tt)
 
 -- first, last and sum and then the receiver's judgement; and the judgement alone
-abbrev pub rightFrom : TagSet → List ℕ → ℕ → Answer (Unit {0})
-rightFrom K p from = bare (then (closed p (itemsAt p from)) (judged (holds K)))
+abbrev pub right_from : TagSet → List ℕ → ℕ → Answer (Unit {0})
+right_from K p from = bare (then (closed p (items_at p from)) (judged (holds K)))
 
-abbrev pub judgedFrom : TagSet → List ℕ → ℕ → Answer (Unit {0})
-judgedFrom K p from = bare (judged (holds K) (itemsAt p from))
+abbrev pub judged_from : TagSet → List ℕ → ℕ → Answer (Unit {0})
+judged_from K p from = bare (judged (holds K) (items_at p from))
 
 -- an item of one byte has no value, is not known, or has one of its codes
-abbrev pub codedIn : TagSet → List ℕ → List ℕ → ℕ → Bool
-codedIn K p places t = cond (ltb 0 (get_or places t 0)) (cond (holds K t) (codeAllowed t 1 (get_or p (get_or places t 0 - 1) 0)) true) true
+abbrev pub coded_in : TagSet → List ℕ → List ℕ → ℕ → Bool
+coded_in K p places t = cond (ltb 0 (get_or places t 0)) (cond (holds K t) (code_allowed t 1 (get_or p (get_or places t 0 - 1) 0)) true) true
 
 -- a value was found for a tag
-abbrev pub foundIn : List ℕ → ℕ → Bool
-foundIn places t = not (eqb (get_or places t 0) 0)
+abbrev pub found_in : List ℕ → ℕ → Bool
+found_in places t = not (eqb (get_or places t 0) 0)
 
 -- and for what a packet needs
-abbrev pub wholeIn : List ℕ → Bool
-wholeIn places = foundIn places 1 && (foundIn places 2 && foundIn places 65)
+abbrev pub whole_in : List ℕ → Bool
+whole_in places = found_in places 1 && (found_in places 2 && found_in places 65)
 
 -- as many tags noted as known items passed: each is fit and stands once
-unfoldable pub cleanIn : TagSet → List ℕ → List ℕ → TagSet → ℕ → Bool
-cleanIn K p places present known = eqb (size present) known && (wholeIn places && (codedIn K p places 34 && codedIn K p places 63))
+unfoldable pub clean_in : TagSet → List ℕ → List ℕ → TagSet → ℕ → Bool
+clean_in K p places present known = eqb (size present) known && (whole_in places && (coded_in K p places 34 && coded_in K p places 63))
 
 -- all places lie in a packet of so many bytes
 pub record PlacesIn (bytes : ℕ) (places : List ℕ) : Type 0 where
@@ -90,7 +90,7 @@ pub record Whole (K : TagSet) (p : List ℕ) (from : ℕ) (k : Kept) : Type 0 wh
   pub inside : from ≤ length p
   pub items : List Item
   pub walked : walk 128 from (drop from p) ≡ given items
-  pub keeps : keptFrom K (freshAt from noPlaces noTags noTags) items ≡ k
+  pub keeps : kept_from K (fresh_at from no_places no_tags no_tags) items ≡ k
 
 -- a packet of a right frame, whose items begin at a place; nothing is kept of them yet
 pub record Begins (K : TagSet) (p : List ℕ) (from : ℕ) (places : List ℕ) : Type 0 where
@@ -98,9 +98,9 @@ pub record Begins (K : TagSet) (p : List ℕ) (from : ℕ) (places : List ℕ) :
   pub some : 2 ≤ length p
   pub short : length p ≤ 8192
   pub inside : from ≤ length p
-  pub none : places ≡ noPlaces
+  pub none : places ≡ no_places
 
 -- the answer by the items, and where their values are found if they are accepted
 pub record ChecksFrom (K : TagSet) (p : List ℕ) (from : ℕ) (r : Checked) (found : List ℕ) : Type 0 where
-  pub says : checkSaid r ≡ map (body_of (holds K)) (then (walk 128 from (drop from p)) (λ is. then (closed p is) (judged (holds K))))
-  pub places : (a : Accepted) → checkSaid r ≡ given a → found ≡ placesFrom noPlaces (itemsAt p from)
+  pub says : check_said r ≡ map (body_of (holds K)) (then (walk 128 from (drop from p)) (λ is. then (closed p is) (judged (holds K))))
+  pub places : (a : Accepted) → check_said r ≡ given a → found ≡ places_from no_places (items_at p from)

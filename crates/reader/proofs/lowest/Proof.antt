@@ -5,20 +5,20 @@ use borrow.Author.Rules.{rules}
 use Rattle.reader.proofs.lowest.Statement.{statement}
 use Rattle.reader.proofs.lowest.Tie as tie
 
-mul-half : tie.Need-overflow-mul-half
-mul-half c = search rules
+mul_half : tie.Need-overflow-mul-half
+mul_half c = search rules
 
-sub-half : tie.Need-overflow-sub-half
-sub-half c = search rules
+sub_half : tie.Need-overflow-sub-half
+sub_half c = search rules
 
-shr-result : tie.Need-overflow-shr-result
-shr-result c = search rules
+shr_result : tie.Need-overflow-shr-result
+shr_result c = search rules
 
-shr-result-2 : tie.Need-overflow-shr-result-2
-shr-result-2 c = search rules
+shr_result_2 : tie.Need-overflow-shr-result-2
+shr_result_2 c = search rules
 
 returns : tie.Need-returns
 returns c = moved_down c.args.width c.requires c.args.top
 
-pub lowest-spec : {M : Type 1} → statement M
-lowest-spec = tie.close (tie.spec mul-half sub-half shr-result shr-result-2 returns)
+pub lowest_spec : {M : Type 1} → statement M
+lowest_spec = tie.close (tie.spec mul_half sub_half shr_result shr_result_2 returns)

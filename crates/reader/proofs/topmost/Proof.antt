@@ -5,20 +5,20 @@ use borrow.Author.Rules.{rules}
 use Rattle.reader.proofs.topmost.Statement.{statement}
 use Rattle.reader.proofs.topmost.Tie as tie
 
-mul-half : tie.Need-overflow-mul-half
-mul-half c = search rules
+mul_half : tie.Need-overflow-mul-half
+mul_half c = search rules
 
-sub-half : tie.Need-overflow-sub-half
-sub-half c = search rules
+sub_half : tie.Need-overflow-sub-half
+sub_half c = search rules
 
-shl-result : tie.Need-overflow-shl-result
-shl-result c = search rules
+shl_result : tie.Need-overflow-shl-result
+shl_result c = search rules
 
-shl-result-2 : tie.Need-overflow-shl-result-2
-shl-result-2 c = search rules
+shl_result_2 : tie.Need-overflow-shl-result-2
+shl_result_2 c = search rules
 
 returns : tie.Need-returns
 returns c = moved_up c.args.width c.requires c.args.word
 
-pub topmost-spec : {M : Type 1} → statement M
-topmost-spec = tie.close (tie.spec mul-half sub-half shl-result shl-result-2 returns)
+pub topmost_spec : {M : Type 1} → statement M
+topmost_spec = tie.close (tie.spec mul_half sub_half shl_result shl_result_2 returns)

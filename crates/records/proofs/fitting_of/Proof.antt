@@ -7,8 +7,8 @@ use Rattle.records.proofs.fitting_of.Tie as tie
 returns : tie.Need-returns
 returns c = rw (lt-ltb _ _ c.if1.true)
 
-returns-2 : tie.Need-returns-2
-returns-2 c = rw (le-ltb _ _ c.if1.false)
+returns_2 : tie.Need-returns-2
+returns_2 c = rw (le-ltb _ _ c.if1.false)
 
-pub fitting-of-spec : {M : Type 1} → statement M
-fitting-of-spec = tie.close (tie.spec returns returns-2)
+pub fitting_of_spec : {M : Type 1} → statement M
+fitting_of_spec = tie.close (tie.spec returns returns_2)

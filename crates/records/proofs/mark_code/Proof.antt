@@ -11,17 +11,17 @@ use Rattle.records.proofs.mark_code.Tie as tie
 returns : tie.Need-returns
 returns c = ap (λ w. 2 ^ (8 * w - 1)) (sym c.if1.true)
 
-mul-result : tie.Need-overflow-mul-result
-mul-result c = search rules
+mul_result : tie.Need-overflow-mul-result
+mul_result c = search rules
 
-sub-result : tie.Need-overflow-sub-result
-sub-result c = search rules
+sub_result : tie.Need-overflow-sub-result
+sub_result c = search rules
 
-shl-result : tie.Need-overflow-shl-result
-shl-result c = search rules
+shl_result : tie.Need-overflow-shl-result
+shl_result c = search rules
 
-returns-2 : tie.Need-returns-2
-returns-2 c = one_shl (8 * c.before.args.width - 1) (omega arith)
+returns_2 : tie.Need-returns-2
+returns_2 c = one_shl (8 * c.before.args.width - 1) (omega arith)
 
-pub mark-code-spec : {M : Type 1} → statement M
-mark-code-spec = tie.close (tie.spec returns mul-result sub-result shl-result returns-2)
+pub mark_code_spec : {M : Type 1} → statement M
+mark_code_spec = tie.close (tie.spec returns mul_result sub_result shl_result returns_2)

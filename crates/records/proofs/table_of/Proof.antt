@@ -20,10 +20,10 @@ use Rattle.base.proofs.Kit.{uint_vals, uint_Tells, uint_Makes, uint_Lawful, u64,
 use Rattle.base.proofs.Kit.{shr_slice_Lawful, shr_slice_copy, nothing, owned, Contract, Triple, Bound, Vals, on_entry, Meets, triple_of, entered, cited, says}
 use Rattle.base.proofs.Kit.{needs, Stays, stay_none, stay_none_slice, walk_of, Goes-none, Goes-none_slice, ends_at, yes}
 use denote.Struct.Laws as LL
-use Rattle.records.specs.Images.{none, image_of, putImage, imagesInto}
+use Rattle.records.specs.Images.{none, image_of, put_image, images_into}
 use Rattle.rows.specs.declared.Row.{Row}
-use Rattle.records.proofs.Laws.{images-none, images-more}
-use Rattle.base.proofs.Walk.{calls-said, local, frees1, makes, beside, kept, meets, holds, fails, one_more, counted}
+use Rattle.records.proofs.Laws.{images_none, images_more}
+use Rattle.base.proofs.Walk.{calls_said, local, frees1, makes, beside, kept, meets, holds, fails, one-more, counted}
 use Rattle.rows.specs.contracts.Row as R
 use Rattle.rows.proofs.Row.TheLaws as R'
 use Rattle.records.specs.contracts.blank as blank
@@ -83,7 +83,7 @@ module _ {M : Type 1} {𝓤 : Ura M} (𝓛 : Logic 𝓤) (mem : Memory → SProp
 
   -- the table with the first i records put in
   abbrev upto : ℕ → List ℕ
-  upto i = imagesInto i s.now (replicate 512 0)
+  upto i = images_into i s.now (replicate 512 0)
 
   abbrev Post : Val → SProp 𝓤
   Post = (walk_of 𝓛 table_of.ended stayed (table_of.clauses 𝓛 mem run)).post (((κ, tt), (q, tt), tt, (s, (n, tt)), at), tt)
@@ -106,26 +106,26 @@ module _ {M : Type 1} {𝓤 : Ura M} (𝓛 : Logic 𝓤) (mem : Memory → SProp
       owned ! AR (Is AR) (Array-Makes 𝓛 u64 (uint_Makes 𝓛 w64) 512) ts _ is $ done !
 
   -- ---- the calls: what each is passed, and what it asks
-  abbrev to-blank : Bound 𝓛 blank.signature
-  to-blank = (tt, tt, tt, tt, tt)
+  abbrev to_blank : Bound 𝓛 blank.signature
+  to_blank = (tt, tt, tt, tt, tt)
 
-  abbrev to-record : ℕ → Bound 𝓛 record-at.signature
-  to-record i = ((κ, tt), (q, tt), tt, (s, (i, tt)), (v ∷ [], (vint w64 i ∷ [], tt)))
+  abbrev to_record : ℕ → Bound 𝓛 record-at.signature
+  to_record i = ((κ, tt), (q, tt), tt, (s, (i, tt)), (v ∷ [], (vint w64 i ∷ [], tt)))
 
   -- what `records` owns goes to the callee, and is kept
-  goes-record : (i : ℕ) → i < 2 ^ 64 → i < length s.now
-      → ent 𝓤 (⋆ 𝓛 (Tok ∷ ‵ Own ∷ [])) (sep 𝓤 ((RecordAt 𝓛 mem run).pre (to-record i, tt)) (sem 𝓛 Own))
-  goes-record i gi l =
+  goes_record : (i : ℕ) → i < 2 ^ 64 → i < length s.now
+      → ent 𝓤 (⋆ 𝓛 (Tok ∷ ‵ Own ∷ [])) (sep 𝓤 ((RecordAt 𝓛 mem run).pre (to_record i, tt)) (sem 𝓛 Own))
+  goes_record i gi l =
       kept 𝓛 (mean 𝓛 Tok) (sem 𝓛 Own) _ (fact 𝓤 (i < length s.now)) ((shr_slice_copy 𝓛 (named 0) κ R.the_row).twice s (v ∷ []))
       (beside 𝓛 (ShrSlice (named 0) κ R.the_row) s (v ∷ []) (usize ∷ []) (words, tt) (i, tt) _ ((refl, gi), tt) (sem 𝓛 Own) (id⊢ 𝓤 (sem 𝓛 Own)))
       (fact_i 𝓤 (i < length s.now) (emp 𝓤) l)
 
-  abbrev to-put : ℕ → Row → Val → Val → Bound 𝓛 put_record.signature
-  to-put i r u w = (tt, tt, tt, (upto i, (i, (r, tt))), (u ∷ [], (vint w64 i ∷ [], (w ∷ [], tt))))
+  abbrev to_put : ℕ → Row → Val → Val → Bound 𝓛 put_record.signature
+  to_put i r u w = (tt, tt, tt, (upto i, (i, (r, tt))), (u ∷ [], (vint w64 i ∷ [], (w ∷ [], tt))))
 
-  goes-put : (i : ℕ) (r : Row) (u w : Val) → i < 2 ^ 64 → i < 128 → Is AR (upto i) (u ∷ []) → Is R.the_row r (w ∷ [])
-      → ent 𝓤 (emp 𝓤) ((PutRecord 𝓛 mem run).pre (to-put i r u w, tt))
-  goes-put i r u w gi l is is' =
+  goes_put : (i : ℕ) (r : Row) (u w : Val) → i < 2 ^ 64 → i < 128 → Is AR (upto i) (u ∷ []) → Is R.the_row r (w ∷ [])
+      → ent 𝓤 (emp 𝓤) ((PutRecord 𝓛 mem run).pre (to_put i r u w, tt))
+  goes_put i r u w gi l is is' =
       makes 𝓛 (AR ∷ usize ∷ R.the_row ∷ []) (Array-Makes 𝓛 u64 words 512, (words, (LL.makes R.the_type R'.the_plain 𝓛, tt)))
       (upto i, (i, (r, tt))) _ (is, ((refl, gi), (is', tt))) (fact 𝓤 (i < 128)) (fact_i 𝓤 (i < 128) (emp 𝓤) l)
 
@@ -163,21 +163,21 @@ module _ {M : Type 1} {𝓤 : Ura M} (𝓛 : Logic 𝓤) (mem : Memory → SProp
         assigns ! (bin ! (local ! 4 refl) (local ! 8 refl) tt) (from ! (stop !)) (init ! 2 refl (tt, tt)) $
         rewrite ! 2 (λ (t : Bool). ‵ (fat full_share ty_bool l₅ 0 (vbool t))) (holds (ltb i n) (lt→ltb i n small)) refl $
         stays ! (local ! 2 refl) $
-        move ! (14 ∷ 15 ∷ []) $ use2 𝓛 (raw ((RecordAt 𝓛 mem run).pre (to-record i, tt)) ⊛ ‵ Own) (goes-record i fits within) $ split ! $
+        move ! (14 ∷ 15 ∷ []) $ use2 𝓛 (raw ((RecordAt 𝓛 mem run).pre (to_record i, tt)) ⊛ ‵ Own) (goes_record i fits within) $ split ! $
         -- [what is asked; what records owns; _6; …; _5; …; _4; …; _3; …; _2; …; _1; …; _0; …]
-        calls-said ! (fm_of 𝓤 H 𝓛.laws 𝓣) record-at.ended (record-at.clauses 𝓛 mem run) known-record (to-record i) tt Tok (id⊢ 𝓤 _)
+        calls_said ! (fm_of 𝓤 H 𝓛.laws 𝓣) record-at.ended (record-at.clauses 𝓛 mem run) known-record (to_record i) tt Tok (id⊢ 𝓤 _)
         (λ r. r ≡ get_or s.now i none) (λ r ws. id⊢ 𝓤 _) (and_then ! (local ! 12 refl) (and_then ! (local ! 6 refl) (no_more !))) (λ w r e is'.
         -- [the token; what records owns; room for _6; …; _5; …; _4; …; _3; …; …]
         land ! (from ! (stop !)) (init ! 2 refl ((LL.lawful R.the_type R'.the_laws 𝓛).typed r _ is').0) $
-        use0 𝓛 (raw ((PutRecord 𝓛 mem run).pre (to-put i r u w, tt))) (goes-put i r u w fits (omega (arith, small, few)) is is') $
-        calls-said ! (fm_of 𝓤 H 𝓛.laws 𝓣) put_record.ended (put_record.clauses 𝓛 mem run) known-put (to-put i r u w) tt (‵ ftrue) (id⊢ 𝓤 _)
-        (λ us. us ≡ putImage (upto i) i (image_of r)) (λ us ws. id⊢ 𝓤 _)
+        use0 𝓛 (raw ((PutRecord 𝓛 mem run).pre (to_put i r u w, tt))) (goes_put i r u w fits (omega (arith, small, few)) is is') $
+        calls_said ! (fm_of 𝓤 H 𝓛.laws 𝓣) put_record.ended (put_record.clauses 𝓛 mem run) known-put (to_put i r u w) tt (‵ ftrue) (id⊢ 𝓤 _)
+        (λ us. us ≡ put_image (upto i) i (image_of r)) (λ us ws. id⊢ 𝓤 _)
         (and_then ! (local ! 9 refl) (and_then ! (local ! 7 refl) (and_then ! (local ! 3 refl) (no_more !)))) (λ u' us e' is''. drop ! $
         land ! (from ! (stop !)) (store ! 8 refl ((Array-Lawful 𝓛 u64 (uint_Lawful 𝓛 w64) 512).typed us _ is'').0) $
         assigns_last ! (bin ! (local ! 6 refl) (lit ! tt) (record { fits = next_fits })) (from ! (stop !)) (store ! 6 refl (tt, record { fits = next_fits })) $
-        forget ! 2 refl $ forget ! 4 refl $ rewrite ! 6 (λ (j : ℕ). ‵ (fat full_share word l₄ 0 (vint w64 j))) (one_more i) refl $
+        forget ! 2 refl $ forget ! 4 refl $ rewrite ! 6 (λ (j : ℕ). ‵ (fat full_share word l₄ 0 (vint w64 j))) (one-more i) refl $
         keep ! (2 ∷ 3 ∷ 4 ∷ 5 ∷ 6 ∷ 7 ∷ 8 ∷ 9 ∷ 10 ∷ 11 ∷ 12 ∷ 13 ∷ 14 ∷ 15 ∷ 0 ∷ 1 ∷ []) $
-        by ! (k u' (subst (λ (ts : List ℕ). Is AR ts (u' ∷ [])) (e' ∙ ap (λ (o : Row). putImage (upto i) i (image_of o)) e ∙ images-more i s.now
+        by ! (k u' (subst (λ (ts : List ℕ). Is AR ts (u' ∷ [])) (e' ∙ ap (λ (o : Row). put_image (upto i) i (image_of o)) e ∙ images_more i s.now
         (replicate 512 0)) is''))))
       where
         fits : i < 2 ^ 64
@@ -216,34 +216,34 @@ module _ {M : Type 1} {𝓤 : Ura M} (𝓛 : Logic 𝓤) (mem : Memory → SProp
       alloc1 ! (λ l₀. alloc1 ! (λ l₁. alloc1 ! (λ l₂. alloc1 ! (λ l₃. alloc1 ! (λ l₄. alloc1 ! (λ l₅. alloc1 ! (λ l₆. alloc0 ! $ params1 ! $
       pass1 ! (init ! 10 refl ((shr_slice_Lawful 𝓛 (named 0) κ R.the_row).typed s (v ∷ []) p).0) $ pass1 ! (init ! 8 refl (tt, record { fits = gn })) $
       pass0 ! $
-      use0 𝓛 (raw ((Blank 𝓛 mem run).pre (to-blank, tt))) (makes 𝓛 [] tt tt tt tt (emp 𝓤) (id⊢ 𝓤 (emp 𝓤))) $
-      calls-said ! (fm_of 𝓤 H 𝓛.laws 𝓣) blank.ended (blank.clauses 𝓛 mem run) known-blank to-blank tt (‵ ftrue) (id⊢ 𝓤 _) (λ ts. ts ≡ replicate 512 0)
+      use0 𝓛 (raw ((Blank 𝓛 mem run).pre (to_blank, tt))) (makes 𝓛 [] tt tt tt tt (emp 𝓤) (id⊢ 𝓤 (emp 𝓤))) $
+      calls_said ! (fm_of 𝓤 H 𝓛.laws 𝓣) blank.ended (blank.clauses 𝓛 mem run) known-blank to_blank tt (‵ ftrue) (id⊢ 𝓤 _) (λ ts. ts ≡ replicate 512 0)
       (λ ts ws. id⊢ 𝓤 _) (no_more !) (λ u ts e is. drop ! $
       land ! (from ! (stop !)) (init ! 6 refl ((Array-Lawful 𝓛 u64 (uint_Lawful 𝓛 w64) 512).typed ts _ is).0) $
       assigns ! (of_opd ! (lit ! tt)) (from ! (stop !)) (init ! 4 refl (tt, record { fits = lit< tt })) $
       move ! (15 ∷ []) $ fsplit ! $ keep ! (2 ∷ 3 ∷ 4 ∷ 5 ∷ 6 ∷ 7 ∷ 8 ∷ 9 ∷ 10 ∷ 11 ∷ 12 ∷ 13 ∷ 14 ∷ 15 ∷ 16 ∷ 0 ∷ []) $
       by ! (loops 𝓣 known-record known-put gn req.0 req.1 l₀ l₁ l₂ l₃ l₄ l₅ l₆ u (subst (λ (us : List ℕ). Is AR us (u ∷ []))
-      (e ∙ images-none s.now (replicate 512 0)) is))))))))))
+      (e ∙ images_none s.now (replicate 512 0)) is))))))))))
 
 module _ {M : Type 1} {𝓤 : Ura M} (𝓛 : Logic 𝓤) (mem : Memory → SProp 𝓤) (run : Routine → Fun 𝓤) (𝓣 : Tables 𝓤 𝓛.H)
     (known-blank : Triple 𝓤 (𝓣.C #records·blank) (Blank 𝓛 mem run)) (known-record : Triple 𝓤 (𝓣.C #records·record-at) (RecordAt 𝓛 mem run))
     (known-put : Triple 𝓤 (𝓣.C #records·put-record) (PutRecord 𝓛 mem run)) where
   open 𝓛 use {H}
 
-  table-of-meets : Meets 𝓛 table_of.signature (WpFn 𝓤 H 𝓣.C 𝓣.Λ code.function) (table_of.spec 𝓛 mem run)
-  table-of-meets =
+  table_of_meets : Meets 𝓛 table_of.signature (WpFn 𝓤 H 𝓣.C 𝓣.Λ code.function) (table_of.spec 𝓛 mem run)
+  table_of_meets =
       meets 𝓛 𝓣 code.function table_of.ended stayed (table_of.clauses 𝓛 mem run)
       (Goes-none_slice 𝓛 1 (0 ∷ []) tt (plain (λ _. R.the_row)) yes, (Goes-none 𝓛 1 (λ _. usize) yes (λ κs x f. refl), tt))
       (λ κs. (shr_slice_vals, (uint_vals w64, tt))) (λ κs. (shr_slice_Tells (named 0) κs.0 R.the_row, (uint_Tells w64, tt)))
       (λ κs qs bounds a g are. needs 𝓤 _ _
       (walk 𝓛 mem run κs.0 qs.0 a.0 a.1.0 𝓣 known-blank known-record known-put are.0 are.1.0.1))
 
-pub table-of-spec : {M : Type 1} → stated.statement M
+pub table_of_spec : {M : Type 1} → stated.statement M
 unfolding code.routine tables_of
-table-of-spec 𝓤 𝓛 𝓜 𝓡 =
+table_of_spec 𝓤 𝓛 𝓜 𝓡 =
     entered 𝓤 𝓛.H (triple_of 𝓛 table_of.signature (table_of.spec 𝓛 𝓜.mem 𝓡.run))
     (tables 𝓤 𝓛.H 𝓜 𝓡 code.env).C (tables 𝓤 𝓛.H 𝓜 𝓡 code.env).Λ #records·table-of code.function (code.unfolded 𝓤 𝓛.H 𝓜 𝓡)
-    (table-of-meets 𝓛 𝓜.mem 𝓡.run (tables_of 𝓤 𝓛.H 𝓜 (tables 𝓤 𝓛.H 𝓜 𝓡 code.env))
+    (table_of_meets 𝓛 𝓜.mem 𝓡.run (tables_of 𝓤 𝓛.H 𝓜 (tables 𝓤 𝓛.H 𝓜 𝓡 code.env))
     (cited 𝓤 𝓛.H (Blank 𝓛 𝓜.mem 𝓡.run) 𝓜 𝓡 code.env #records·blank blank-def.routine code.calls-records::blank (blank-thm.met 𝓤 𝓛 𝓜 𝓡))
     (cited 𝓤 𝓛.H (RecordAt 𝓛 𝓜.mem 𝓡.run) 𝓜 𝓡 code.env #records·record-at record-at-def.routine code.calls-records::record-at
     (record-at-thm.met 𝓤 𝓛 𝓜 𝓡))

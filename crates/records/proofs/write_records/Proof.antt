@@ -18,7 +18,7 @@ use Rattle.base.proofs.Kit.{Args, Vals, on_entry, Meets, triple_of, entered, cit
 use Rattle.base.proofs.Kit.{Goes-none_slice, Goes-gave_slice, ends_at, yes}
 use denote.Enum.Laws as EL
 use denote.Struct.Laws as LL
-use Rattle.records.specs.Images.{imagesInto, fitting, imageTable}
+use Rattle.records.specs.Images.{images_into, fitting, image_table}
 use Rattle.rows.specs.declared.Row.{Row}
 use Rattle.writer.specs.Writes.{Writes}
 use Rattle.writer.specs.declared.Writing.{Writing}
@@ -26,7 +26,7 @@ use Rattle.tagset.specs.declared.TagSet.{TagSet}
 use Rattle.records.proofs.Laws.{table_is}
 use Rattle.tagset.specs.contracts.TagSet as K
 use Rattle.tagset.proofs.TagSet.TheLaws as K'
-use Rattle.base.proofs.Walk.{calls-told, calls-said, local, frees1, makes, beside, kept, meets}
+use Rattle.base.proofs.Walk.{calls_told, calls_said, local, frees1, makes, beside, kept, meets}
 use Rattle.rows.specs.contracts.Row as R
 use Rattle.writer.specs.contracts.Writing as N
 use Rattle.writer.proofs.Writing.TheLaws as N'
@@ -52,12 +52,12 @@ use Rattle.records.proofs.write_records.Statement as stated
 use Rattle.records.proofs.write_records.Code as code
 
 -- the records that have room are at most 128, and at most all
-fit-by : (c : ℕ) (t : Bool) → ltb c 128 ≡ t → (cond t c 128 ≤ 128) × (cond t c 128 ≤ c)
-fit-by c true e = (le_of_lt (ltb→lt c 128 (subst T (sym e) tt)), le_refl c)
-fit-by c false e = (le_refl 128, nltb→le c 128 (subst (λ (t : Bool). T (not t)) (sym e) tt))
+fit_by : (c : ℕ) (t : Bool) → ltb c 128 ≡ t → (cond t c 128 ≤ 128) × (cond t c 128 ≤ c)
+fit_by c true e = (le_of_lt (ltb→lt c 128 (subst T (sym e) tt)), le_refl c)
+fit_by c false e = (le_refl 128, nltb→le c 128 (subst (λ (t : Bool). T (not t)) (sym e) tt))
 
-fit-le : (c : ℕ) → (fitting c ≤ 128) × (fitting c ≤ c)
-fit-le c = fit-by c (ltb c 128) refl
+fit_le : (c : ℕ) → (fitting c ≤ 128) × (fitting c ≤ c)
+fit_le c = fit_by c (ltb c 128) refl
 
 abbrev stayed : Stays (write-records.ended).signature.params (write-records.ended).kept
 stayed = (
@@ -68,8 +68,8 @@ stayed = (
   ),
 )
 
-abbrev set-vals : TagSet → List Val
-set-vals = LL.vals K.the_type K'.the_laws
+abbrev set_vals : TagSet → List Val
+set_vals = LL.vals K.the_type K'.the_laws
 
 abbrev AR : RattleType
 AR = Array u64 512
@@ -88,7 +88,7 @@ module _ {M : Type 1} {𝓤 : Ura M} (𝓛 : Logic 𝓤) (mem : Memory → SProp
   WriteTable = triple_of 𝓛 write-table.signature (write-table.spec 𝓛 mem run)
 
 module _ {M : Type 1} {𝓤 : Ura M} (𝓛 : Logic 𝓤) (mem : Memory → SProp 𝓤) (run : Routine
-    → Fun 𝓤) (κ₀ κ₁ κ₂ : Lft) (q₀ q₁ q₂ : Share) (k : TagSet) (s : Bor (List Row)) (x y : Bor (List ℕ)) (isk : Is K.the_row k (set-vals k)) where
+    → Fun 𝓤) (κ₀ κ₁ κ₂ : Lft) (q₀ q₁ q₂ : Share) (k : TagSet) (s : Bor (List Row)) (x y : Bor (List ℕ)) (isk : Is K.the_row k (set_vals k)) where
   -- the machine values of the parameters
   open 𝓛 use {H}
 
@@ -131,7 +131,7 @@ module _ {M : Type 1} {𝓤 : Ura M} (𝓛 : Logic 𝓤) (mem : Memory → SProp
 
   -- what the contract says, of a result and a last list
   abbrev Said : Writing → List ℕ → Type 0
-  Said r zs = Writes k (length s.now) (imageTable s.now) x.now y.now r zs
+  Said r zs = Writes k (length s.now) (image_table s.now) x.now y.now r zs
 
   exits : (r : Writing) (w : Val) (zs : List ℕ) → Said r zs → length zs ≡ length y.now
       → ent 𝓤 (⋆ 𝓛 (Tok ∷ ‵ OwnR ∷ Toks ∷ ‵ OwnX ∷ ‵ (finally u8 (name y) zs) ∷ ‵ ((N.the_row).own_val r (w ∷ [])) ∷ [])) (Post w)
@@ -153,24 +153,24 @@ module _ {M : Type 1} {𝓤 : Ura M} (𝓛 : Logic 𝓤) (mem : Memory → SProp
   words : Makes 𝓛 usize (Is usize)
   words = uint_Makes 𝓛 w64
 
-  abbrev to-count : Bound 𝓛 count.signature
-  to-count = ((κ₀, tt), (q₀, tt), tt, (s, tt), (vs ∷ [], tt))
+  abbrev to_count : Bound 𝓛 count.signature
+  to_count = ((κ₀, tt), (q₀, tt), tt, (s, tt), (vs ∷ [], tt))
 
-  goes-count : ent 𝓤 (⋆ 𝓛 (Tok ∷ ‵ OwnR ∷ [])) (sep 𝓤 ((Count 𝓛 mem run).pre (to-count, tt)) (sem 𝓛 OwnR))
-  goes-count = goes [] tt tt tt tt (emp 𝓤) (id⊢ 𝓤 (emp 𝓤))
+  goes_count : ent 𝓤 (⋆ 𝓛 (Tok ∷ ‵ OwnR ∷ [])) (sep 𝓤 ((Count 𝓛 mem run).pre (to_count, tt)) (sem 𝓛 OwnR))
+  goes_count = goes [] tt tt tt tt (emp 𝓤) (id⊢ 𝓤 (emp 𝓤))
 
-  abbrev to-fit : ℕ → Val → Bound 𝓛 fitting-of.signature
-  to-fit c w = (tt, tt, tt, (c, tt), (w ∷ [], tt))
+  abbrev to_fit : ℕ → Val → Bound 𝓛 fitting-of.signature
+  to_fit c w = (tt, tt, tt, (c, tt), (w ∷ [], tt))
 
-  goes-fit : (c : ℕ) (w : Val) → Is usize c (w ∷ []) → ent 𝓤 (emp 𝓤) ((FittingOf 𝓛 mem run).pre (to-fit c w, tt))
-  goes-fit c w is = makes 𝓛 (usize ∷ []) (words, tt) (c, tt) _ (is, tt) (emp 𝓤) (id⊢ 𝓤 (emp 𝓤))
+  goes_fit : (c : ℕ) (w : Val) → Is usize c (w ∷ []) → ent 𝓤 (emp 𝓤) ((FittingOf 𝓛 mem run).pre (to_fit c w, tt))
+  goes_fit c w is = makes 𝓛 (usize ∷ []) (words, tt) (c, tt) _ (is, tt) (emp 𝓤) (id⊢ 𝓤 (emp 𝓤))
 
-  abbrev to-table : ℕ → Val → Bound 𝓛 table_of.signature
-  to-table n w = ((κ₀, tt), (q₀, tt), tt, (s, (n, tt)), (vs ∷ [], (w ∷ [], tt)))
+  abbrev to_table : ℕ → Val → Bound 𝓛 table_of.signature
+  to_table n w = ((κ₀, tt), (q₀, tt), tt, (s, (n, tt)), (vs ∷ [], (w ∷ [], tt)))
 
-  goes-table : (n : ℕ) (w : Val) → Is usize n (w ∷ []) → (n ≤ 128) × (n ≤ length s.now)
-      → ent 𝓤 (⋆ 𝓛 (Tok ∷ ‵ OwnR ∷ [])) (sep 𝓤 ((TableOf 𝓛 mem run).pre (to-table n w, tt)) (sem 𝓛 OwnR))
-  goes-table n w is few = goes (usize ∷ []) (words, tt) (n, tt) _ (is, tt) (fact 𝓤 _) (fact_i 𝓤 _ (emp 𝓤) few)
+  goes_table : (n : ℕ) (w : Val) → Is usize n (w ∷ []) → (n ≤ 128) × (n ≤ length s.now)
+      → ent 𝓤 (⋆ 𝓛 (Tok ∷ ‵ OwnR ∷ [])) (sep 𝓤 ((TableOf 𝓛 mem run).pre (to_table n w, tt)) (sem 𝓛 OwnR))
+  goes_table n w is few = goes (usize ∷ []) (words, tt) (n, tt) _ (is, tt) (fact 𝓤 _) (fact_i 𝓤 _ (emp 𝓤) few)
 
   abbrev passed : ℕ → List ℕ → Args write-table.signature (κ₁, (κ₂, tt))
   passed c ts = (k, (c, (ts, (x, (y, tt)))))
@@ -178,10 +178,10 @@ module _ {M : Type 1} {𝓤 : Ura M} (𝓛 : Logic 𝓤) (mem : Memory → SProp
   abbrev to_write : ℕ → List ℕ → Val → Val → Bound 𝓛 write-table.signature
   to_write c ts w u = ((κ₁, (κ₂, tt)), (q₁, (q₂, tt)), tt, passed c ts, (vk ∷ [], (w ∷ [], (u ∷ [], (vx ∷ [], (vy ∷ [], tt))))))
 
-  goes-write : (c : ℕ) (ts : List ℕ) (w u : Val) → Is usize c (w ∷ []) → Is AR ts (u ∷ [])
+  goes_write : (c : ℕ) (ts : List ℕ) (w u : Val) → Is usize c (w ∷ []) → Is AR ts (u ∷ [])
       → ent 𝓤 (⋆ 𝓛 (‵ (flft κ₁ q₁) ∷ ‵ OwnX ∷ ‵ (flft κ₂ q₂) ∷ ‵ OwnY ∷ [])) (sep 𝓤 ((WriteTable 𝓛 mem run).pre (to_write c ts w u, tt))
       (sem 𝓛 OwnX))
-  goes-write c ts w u is is' =
+  goes_write c ts w u is is' =
       qed 𝓛 (‵ (flft κ₁ q₁) ∷ ‵ OwnX ∷ ‵ (flft κ₂ q₂) ∷ ‵ OwnY ∷ []) ∵ move ! (1 ∷ []) $
       use1 𝓛 (‵ OwnX ⊛ ‵ OwnX) ((shr_slice_copy 𝓛 (named 1) κ₁ u8).twice x (vx ∷ [])) $ split ! $
       -- [what buffer owns, twice; the tokens; what out owns]
@@ -216,19 +216,19 @@ module _ {M : Type 1} {𝓤 : Ura M} (𝓛 : Logic 𝓤) (mem : Memory → SProp
         -- [records's token; what records owns; buffer's token; what buffer owns; out's token; what out owns; true; true; _9; …; _8; …; _7; …; _6; …; _5; …;
         -- _4; …; _3; …; _2; …; _1; …; _0; …]
         -- `count`
-        use2 𝓛 (raw ((Count 𝓛 mem run).pre (to-count, tt)) ⊛ ‵ OwnR) goes-count $ split ! $
-        calls-said ! fm count.ended (count.clauses 𝓛 mem run) known-count to-count tt Tok (id⊢ 𝓤 _) (λ c. c ≡ length s.now) (λ c ws. id⊢ 𝓤 _)
+        use2 𝓛 (raw ((Count 𝓛 mem run).pre (to_count, tt)) ⊛ ‵ OwnR) goes_count $ split ! $
+        calls_said ! fm count.ended (count.clauses 𝓛 mem run) known-count to_count tt Tok (id⊢ 𝓤 _) (λ c. c ≡ length s.now) (λ c ws. id⊢ 𝓤 _)
         (and_then ! (local ! 22 refl) (no_more !)) (λ w c ec isc. land ! (from ! (stop !)) (init ! 16 refl ((uint_Lawful 𝓛 w64).typed c _ isc).0) $
         -- `fitting_of`
-        use0 𝓛 (raw ((FittingOf 𝓛 mem run).pre (to-fit c w, tt))) (goes-fit c w isc) $
-        calls-said ! fm fitting-of.ended (fitting-of.clauses 𝓛 mem run) known-fit (to-fit c w) tt (‵ ftrue) (id⊢ 𝓤 _)
+        use0 𝓛 (raw ((FittingOf 𝓛 mem run).pre (to_fit c w, tt))) (goes_fit c w isc) $
+        calls_said ! fm fitting-of.ended (fitting-of.clauses 𝓛 mem run) known-fit (to_fit c w) tt (‵ ftrue) (id⊢ 𝓤 _)
         (λ n. n ≡ fitting c) (λ n ws. id⊢ 𝓤 _) (and_then ! (local ! 17 refl) (no_more !)) (λ w' n en isn. drop ! $
         land ! (from ! (stop !)) (init ! 14 refl ((uint_Lawful 𝓛 w64).typed n _ isn).0) $
         -- `table_of`
-        use2 𝓛 (raw ((TableOf 𝓛 mem run).pre (to-table n w', tt)) ⊛ ‵ OwnR) (goes-table n w' isn
-        (subst (λ (m : ℕ). (m ≤ 128) × (m ≤ length s.now)) (sym (en ∙ ap fitting ec)) (fit-le (length s.now)))) $ split ! $
-        calls-said ! fm table_of.ended (table_of.clauses 𝓛 mem run) known-table (to-table n w') tt Tok (id⊢ 𝓤 _)
-        (λ ts. ts ≡ imagesInto n s.now (replicate 512 0)) (λ ts ws. id⊢ 𝓤 _) (and_then ! (local ! 22 refl) (and_then ! (local ! 14 refl) (no_more !)))
+        use2 𝓛 (raw ((TableOf 𝓛 mem run).pre (to_table n w', tt)) ⊛ ‵ OwnR) (goes_table n w' isn
+        (subst (λ (m : ℕ). (m ≤ 128) × (m ≤ length s.now)) (sym (en ∙ ap fitting ec)) (fit_le (length s.now)))) $ split ! $
+        calls_said ! fm table_of.ended (table_of.clauses 𝓛 mem run) known-table (to_table n w') tt Tok (id⊢ 𝓤 _)
+        (λ ts. ts ≡ images_into n s.now (replicate 512 0)) (λ ts ws. id⊢ 𝓤 _) (and_then ! (local ! 22 refl) (and_then ! (local ! 14 refl) (no_more !)))
         (λ u ts et ist.
         land ! (from ! (stop !)) (init ! 12 refl ((Array-Lawful 𝓛 u64 (uint_Lawful 𝓛 w64) 512).typed ts _ ist).0) $
         -- `out` is lent again as it is
@@ -237,10 +237,10 @@ module _ {M : Type 1} {𝓤 : Ura M} (𝓛 : Logic 𝓤) (mem : Memory → SProp
         (no_more !)))) (from ! (stop !)) (init ! 8 refl (tt, (tt, (record { fits = py.0.1.0 }, tt)))) $
         -- `write_table`
         move ! (2 ∷ 3 ∷ 4 ∷ 5 ∷ []) $ group ! 4 $ use1 𝓛 (raw ((WriteTable 𝓛 mem run).pre (to_write c ts w u, tt)) ⊛ ‵ OwnX)
-        (goes-write c ts w u isc ist) $ split ! $
+        (goes_write c ts w u isc ist) $ split ! $
         -- [what is asked; what buffer owns; records's token; what records owns; true; true; _9; …; _8; …; _7; …; _6; …; _5; …; _4; …; _3; …; _2; …; _1; …;
         -- _0; …]
-        calls-told ! fm write-table.ended (write-table.clauses 𝓛 mem run) known-write (to_write c ts w u) tt Toks (id⊢ 𝓤 _)
+        calls_told ! fm write-table.ended (write-table.clauses 𝓛 mem run) known-write (to_write c ts w u) tt Toks (id⊢ 𝓤 _)
         (λ r zs. Writes k c ts x.now y.now r zs.1.1.1.1.0) (λ r zs. id⊢ 𝓤 _)
         (and_then ! (local ! 22 refl) (and_then ! (local ! 14 refl) (and_then ! (local ! 10 refl)
         (and_then ! (local ! 18 refl) (and_then ! (local ! 6 refl) (no_more !))))))
@@ -254,11 +254,11 @@ module _ {M : Type 1} {𝓤 : Ura M} (𝓛 : Logic 𝓤) (mem : Memory → SProp
         keep ! (5 ∷ 6 ∷ 1 ∷ 4 ∷ 2 ∷ 0 ∷ []) $
         by ! (exits r z zs.1.1.1.1.0 (told c n ts r zs.1.1.1.1.0 ec en et e) l))))))))))))))))
       where
-        told : (c n : ℕ) (ts : List ℕ) (r : Writing) (zs : List ℕ) → c ≡ length s.now → n ≡ fitting c → ts ≡ imagesInto n s.now (replicate 512 0)
+        told : (c n : ℕ) (ts : List ℕ) (r : Writing) (zs : List ℕ) → c ≡ length s.now → n ≡ fitting c → ts ≡ images_into n s.now (replicate 512 0)
             → Writes k c ts x.now y.now r zs → Said r zs
         told c n ts r zs ec en et e =
-            let same = et ∙ ap (λ (m : ℕ). imagesInto m s.now (replicate 512 0)) (en ∙ ap fitting ec) ∙ table_is s.now in
-            subst (λ (m : ℕ). Writes k m (imageTable s.now) x.now y.now r zs) ec (subst (λ (us : List ℕ). Writes k c us x.now y.now r zs) same e)
+            let same = et ∙ ap (λ (m : ℕ). images_into m s.now (replicate 512 0)) (en ∙ ap fitting ec) ∙ table_is s.now in
+            subst (λ (m : ℕ). Writes k m (image_table s.now) x.now y.now r zs) ec (subst (λ (us : List ℕ). Writes k c us x.now y.now r zs) same e)
 
 module _ {M : Type 1} {𝓤 : Ura M} (𝓛 : Logic 𝓤) (mem : Memory → SProp 𝓤) (run : Routine → Fun 𝓤) (𝓣 : Tables 𝓤 𝓛.H)
     (known-count : Triple 𝓤 (𝓣.C #records·count) (Count 𝓛 mem run)) (known-fit : Triple 𝓤 (𝓣.C #records·fitting-of) (FittingOf 𝓛 mem run))
@@ -266,8 +266,8 @@ module _ {M : Type 1} {𝓤 : Ura M} (𝓛 : Logic 𝓤) (mem : Memory → SProp
     (WriteTable 𝓛 mem run)) where
   open 𝓛 use {H}
 
-  write-records-meets : Meets 𝓛 write-records.signature (WpFn 𝓤 H 𝓣.C 𝓣.Λ code.function) (write-records.spec 𝓛 mem run)
-  write-records-meets =
+  write_records_meets : Meets 𝓛 write-records.signature (WpFn 𝓤 H 𝓣.C 𝓣.Λ code.function) (write-records.spec 𝓛 mem run)
+  write_records_meets =
       meets 𝓛 𝓣 code.function write-records.ended stayed (write-records.clauses 𝓛 mem run) (
         Goes-none 𝓛 3 (λ _. K.the_row) yes (λ κs x f. refl),
         (
@@ -275,7 +275,7 @@ module _ {M : Type 1} {𝓤 : Ura M} (𝓛 : Logic 𝓤) (mem : Memory → SProp
           (Goes-none_slice 𝓛 3 (1 ∷ []) tt (plain (λ _. u8)) yes, (Goes-gave_slice 𝓛 3 2 tt (plain (λ _. u8)), tt)),
         ),
       )
-      (λ κs. (set-vals, (shr_slice_vals, (shr_slice_vals, (shr_slice_vals, tt)))))
+      (λ κs. (set_vals, (shr_slice_vals, (shr_slice_vals, (shr_slice_vals, tt)))))
       (λ κs. (
         LL.tells K.the_type K'.the_laws,
         (
@@ -287,12 +287,12 @@ module _ {M : Type 1} {𝓤 : Ura M} (𝓛 : Logic 𝓤) (mem : Memory → SProp
       a.0 a.1.0 a.1.1.0 a.1.1.1.0 are.0 𝓣.C 𝓣.Λ (fm_of 𝓤 H 𝓛.laws 𝓣) known-count known-fit known-table known-write
       are.1.0 are.1.1.0 are.1.1.1.0))
 
-pub write-records-spec : {M : Type 1} → stated.statement M
+pub write_records_spec : {M : Type 1} → stated.statement M
 unfolding code.routine tables_of
-write-records-spec 𝓤 𝓛 𝓜 𝓡 =
+write_records_spec 𝓤 𝓛 𝓜 𝓡 =
     entered 𝓤 𝓛.H (triple_of 𝓛 write-records.signature (write-records.spec 𝓛 𝓜.mem 𝓡.run))
     (tables 𝓤 𝓛.H 𝓜 𝓡 code.env).C (tables 𝓤 𝓛.H 𝓜 𝓡 code.env).Λ #records·write-records code.function (code.unfolded 𝓤 𝓛.H 𝓜 𝓡)
-    (write-records-meets 𝓛 𝓜.mem 𝓡.run (tables_of 𝓤 𝓛.H 𝓜 (tables 𝓤 𝓛.H 𝓜 𝓡 code.env))
+    (write_records_meets 𝓛 𝓜.mem 𝓡.run (tables_of 𝓤 𝓛.H 𝓜 (tables 𝓤 𝓛.H 𝓜 𝓡 code.env))
     (cited 𝓤 𝓛.H (Count 𝓛 𝓜.mem 𝓡.run) 𝓜 𝓡 code.env #records·count count-def.routine code.calls-records::count (count-thm.met 𝓤 𝓛 𝓜 𝓡))
     (cited 𝓤 𝓛.H (FittingOf 𝓛 𝓜.mem 𝓡.run) 𝓜 𝓡 code.env #records·fitting-of fitting-of-def.routine code.calls-records::fitting-of
     (fitting-of-thm.met 𝓤 𝓛 𝓜 𝓡))

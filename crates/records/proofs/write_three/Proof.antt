@@ -17,7 +17,7 @@ use Rattle.base.proofs.Kit.{stay_none_slice, gave_slice, walk_of, Goes-none, Goe
 use lib.Dec.{T as Holds}
 use denote.Enum.Laws as EL
 use denote.Struct.Laws as LL
-use Rattle.records.specs.Images.{imageTable}
+use Rattle.records.specs.Images.{image_table}
 use Rattle.rows.specs.declared.Row.{Row}
 use Rattle.writer.specs.Writes.{Writes}
 use Rattle.writer.specs.declared.Writing.{Writing}
@@ -25,7 +25,7 @@ use Rattle.records.proofs.Lent.{lies, back}
 use Rattle.tagset.specs.declared.TagSet.{TagSet}
 use Rattle.tagset.specs.contracts.TagSet as K
 use Rattle.tagset.proofs.TagSet.TheLaws as K'
-use Rattle.base.proofs.Walk.{calls-told, local, frees1, meets}
+use Rattle.base.proofs.Walk.{calls_told, local, frees1, meets}
 use Rattle.rows.specs.contracts.Row as R
 use Rattle.rows.proofs.Row.TheLaws as R'
 use Rattle.writer.specs.contracts.Writing as N
@@ -43,11 +43,11 @@ use Rattle.records.proofs.write_three.Code as code
 abbrev AR : RattleType
 AR = Array R.the_row 3
 
-abbrev set-vals : TagSet → List Val
-set-vals = LL.vals K.the_type K'.the_laws
+abbrev set_vals : TagSet → List Val
+set_vals = LL.vals K.the_type K'.the_laws
 
-abbrev row-vals : Row → List Val
-row-vals = LL.vals R.the_type R'.the_laws
+abbrev row_vals : Row → List Val
+row_vals = LL.vals R.the_type R'.the_laws
 
 abbrev arr : Ty
 arr = ty_array R'.mir 3
@@ -69,8 +69,8 @@ module _ {M : Type 1} {𝓤 : Ura M} (𝓛 : Logic 𝓤) (mem : Memory → SProp
   WriteRecords = triple_of 𝓛 write-records.signature (write-records.spec 𝓛 mem run)
 
 module _ {M : Type 1} {𝓤 : Ura M} (𝓛 : Logic 𝓤) (mem : Memory → SProp 𝓤) (run : Routine
-    → Fun 𝓤) (κ₀ κ₁ : Lft) (q₀ q₁ : Share) (k : TagSet) (ts : List Row) (x y : Bor (List ℕ)) (isk : Is K.the_row k (set-vals k))
-    (ist : Is AR ts (array_vals row-vals ts)) where
+    → Fun 𝓤) (κ₀ κ₁ : Lft) (q₀ q₁ : Share) (k : TagSet) (ts : List Row) (x y : Bor (List ℕ)) (isk : Is K.the_row k (set_vals k))
+    (ist : Is AR ts (array_vals row_vals ts)) where
   -- the machine values of the parameters
   open 𝓛 use {H}
 
@@ -78,7 +78,7 @@ module _ {M : Type 1} {𝓤 : Ura M} (𝓛 : Logic 𝓤) (mem : Memory → SProp
   vk = LL.val K.the_type K'.the_laws k
 
   abbrev u : Val
-  u = only (array_vals row-vals ts)
+  u = only (array_vals row_vals ts)
 
   abbrev vx : Val
   vx = slice_val x.ref_ptr (length x.now)
@@ -111,7 +111,7 @@ module _ {M : Type 1} {𝓤 : Ura M} (𝓛 : Logic 𝓤) (mem : Memory → SProp
   OwnY = (MutSlice (named 1) κ₁ u8).own_val y (vy ∷ [])
 
   abbrev Said : Writing → List ℕ → Type 0
-  Said r zs = Writes k (length ts) (imageTable ts) x.now y.now r zs
+  Said r zs = Writes k (length ts) (image_table ts) x.now y.now r zs
 
   exits : (r : Writing) (w : Val) (zs : List ℕ) → Said r zs → length zs ≡ length y.now
       → ent 𝓤 (⋆ 𝓛 (Toks ∷ ‵ OwnX ∷ ‵ (finally u8 (name y) zs) ∷ ‵ ((N.the_row).own_val r (w ∷ [])) ∷ [])) (Post w)
@@ -187,14 +187,14 @@ module _ {M : Type 1} {𝓤 : Ura M} (𝓛 : Logic 𝓤) (mem : Memory → SProp
         move ! (2 ∷ 0 ∷ 3 ∷ 4 ∷ 5 ∷ 6 ∷ []) $ group ! 6 $ use1 𝓛 (raw ((WriteRecords 𝓛 mem run).pre (to_write l₅ γ (β ∷ []), tt)) ⊛ ‵ OwnX)
         (goes l₅ γ (β ∷ [])) $ split ! $
         -- [what is asked; what buffer owns; the lender's part; true; true; _9; …; _8; …; _7; …; _6; …; of _5 that it dies; _4; …; _3; …; _2; …; _1; …; _0; …]
-        calls-told ! fm write-records.ended (write-records.clauses 𝓛 mem run) known (to_write l₅ γ (β ∷ [])) tt (‵ (flft (β ∷ []) full_share) ⊛ Toks)
+        calls_told ! fm write-records.ended (write-records.clauses 𝓛 mem run) known (to_write l₅ γ (β ∷ [])) tt (‵ (flft (β ∷ []) full_share) ⊛ Toks)
         (id⊢ 𝓤 _)
         (λ r zs. Said r zs.1.1.1.0) (λ r zs. id⊢ 𝓤 _)
         (and_then ! (local ! 20 refl) (and_then ! (local ! 9 refl) (and_then ! (local ! 16 refl) (and_then ! (local ! 5 refl) (no_more !))))) (λ z r zs e is.
         move ! (2 ∷ []) $ fsplit ! $ drop ! $ fsplit ! $ drop ! $ fsplit ! $ drop ! $ fsplit ! $ fsplit ! $ move ! (1 ∷ []) $ feq_l ! (λ l.
         -- [the last list; true; the result; the tokens; what buffer owns; the lender's part; true; true; _9; …]: the lifetime ends, and the array is back
         move ! (3 ∷ []) $ split ! $ lft_end ! tt $ move ! (0 ∷ 6 ∷ []) $ lent_back ! tt $
-        use1 𝓛 (‵ (froom arr l₅ 0)) (back 𝓛 R.the_row 3 ts l₅ row-vals (LL.tells R.the_type R'.the_laws) len) $
+        use1 𝓛 (‵ (froom arr l₅ 0)) (back 𝓛 R.the_row 3 ts l₅ row_vals (LL.tells R.the_type R'.the_laws) len) $
         -- [room for _5; the tokens; the last list; true; the result; what buffer owns; true; true; _9; …; _8; …; _7; …; _6; …; of _5 that it dies; _4; …; _3;
         -- …]
         move ! (4 ∷ []) $
@@ -210,8 +210,8 @@ module _ {M : Type 1} {𝓤 : Ura M} (𝓛 : Logic 𝓤) (mem : Memory → SProp
     → Fun 𝓤) (𝓣 : Tables 𝓤 𝓛.H) (known : Triple 𝓤 (𝓣.C #records·write-records) (WriteRecords 𝓛 mem run)) where
   open 𝓛 use {H}
 
-  write-three-meets : Meets 𝓛 write-three.signature (WpFn 𝓤 H 𝓣.C 𝓣.Λ code.function) (write-three.spec 𝓛 mem run)
-  write-three-meets =
+  write_three_meets : Meets 𝓛 write-three.signature (WpFn 𝓤 H 𝓣.C 𝓣.Λ code.function) (write-three.spec 𝓛 mem run)
+  write_three_meets =
       meets 𝓛 𝓣 code.function write-three.ended stayed (write-three.clauses 𝓛 mem run) (
         Goes-none 𝓛 2 (λ _. K.the_row) yes (λ κs x f. refl),
         (
@@ -219,22 +219,22 @@ module _ {M : Type 1} {𝓤 : Ura M} (𝓛 : Logic 𝓤) (mem : Memory → SProp
           (Goes-none_slice 𝓛 2 (0 ∷ []) tt (plain (λ _. u8)) yes, (Goes-gave_slice 𝓛 2 1 tt (plain (λ _. u8)), tt)),
         ),
       )
-      (λ κs. (set-vals, (array_vals row-vals, (shr_slice_vals, (shr_slice_vals, tt)))))
+      (λ κs. (set_vals, (array_vals row_vals, (shr_slice_vals, (shr_slice_vals, tt)))))
       (λ κs. (
         LL.tells K.the_type K'.the_laws,
         (
-          Array-Tells R.the_row row-vals (LL.tells R.the_type R'.the_laws) 3,
+          Array-Tells R.the_row row_vals (LL.tells R.the_type R'.the_laws) 3,
           (shr_slice_Tells (named 0) κs.0 u8, (mut_slice_Tells (named 1) κs.1.0 u8, tt)),
         ),
       ))
       (λ κs qs bounds a g are. via 𝓤 _ (fst∗ 𝓤 _ (emp 𝓤)) (walk 𝓛 mem run κs.0 κs.1.0 qs.0 qs.1.0 a.0 a.1.0 a.1.1.0
       a.1.1.1.0 are.0 are.1.0 𝓣.C 𝓣.Λ (fm_of 𝓤 H 𝓛.laws 𝓣) known are.1.1.0 are.1.1.1.0))
 
-pub write-three-spec : {M : Type 1} → stated.statement M
+pub write_three_spec : {M : Type 1} → stated.statement M
 unfolding code.routine tables_of
-write-three-spec 𝓤 𝓛 𝓜 𝓡 =
+write_three_spec 𝓤 𝓛 𝓜 𝓡 =
     entered 𝓤 𝓛.H (triple_of 𝓛 write-three.signature (write-three.spec 𝓛 𝓜.mem 𝓡.run))
     (tables 𝓤 𝓛.H 𝓜 𝓡 code.env).C (tables 𝓤 𝓛.H 𝓜 𝓡 code.env).Λ #records·write-three code.function (code.unfolded 𝓤 𝓛.H 𝓜 𝓡)
-    (write-three-meets 𝓛 𝓜.mem 𝓡.run (tables_of 𝓤 𝓛.H 𝓜 (tables 𝓤 𝓛.H 𝓜 𝓡 code.env))
+    (write_three_meets 𝓛 𝓜.mem 𝓡.run (tables_of 𝓤 𝓛.H 𝓜 (tables 𝓤 𝓛.H 𝓜 𝓡 code.env))
     (cited 𝓤 𝓛.H (WriteRecords 𝓛 𝓜.mem 𝓡.run) 𝓜 𝓡 code.env #records·write-records write-records-def.routine code.calls-records::write-records
     (write-records-thm.met 𝓤 𝓛 𝓜 𝓡)))

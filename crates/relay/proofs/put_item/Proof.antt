@@ -3,54 +3,54 @@
 use native.Mathlib.Omega.{arith}
 use mathlib.Core.Path.{ap, ◌∙◌}
 use borrow.Author.Rules.{rules}
-use Rattle.base.specs.Putting.{putInto}
-use Rattle.base.proofs.Putting.{all-wrote}
-use Rattle.writer.proofs.Pieces.{tag-wrote, value-fits, item-fits, item-wrote}
-use Rattle.relay.proofs.Items.{value-size, value_lent}
+use Rattle.base.specs.Putting.{put_into}
+use Rattle.base.proofs.Putting.{all_wrote}
+use Rattle.writer.proofs.Pieces.{tag_wrote, value_fits, item_fits, item_wrote}
+use Rattle.relay.proofs.Items.{value_size, value_lent}
 use Rattle.relay.proofs.put_item.Statement.{statement}
 use Rattle.relay.proofs.put_item.Tie as tie
 
-add-end : tie.Need-overflow-add-end
-add-end c = search rules
+add_end : tie.Need-overflow-add-end
+add_end c = search rules
 
-put-tag-requires : tie.Need-put-tag-requires
-put-tag-requires c κs = search rules
+put_tag_requires : tie.Need-put-tag-requires
+put_tag_requires c κs = search rules
 
-add-after : tie.Need-overflow-add-after
-add-after c =
+add_after : tie.Need-overflow-add-after
+add_after c =
     let s = c.before.before.before.before.before.before in
-    let size = value-size s.args.packet.now s.args.item s.requires.0 in
+    let size = value_size s.args.packet.now s.args.item s.requires.0 in
     let tag = c.before.before.put-tag.ensures in
-    omega (arith, (tag-wrote _ size s.requires.1 tag).inside, s.well-formed)
+    omega (arith, (tag_wrote _ size s.requires.1 tag).inside, s.well-formed)
 
-put-length-requires : tie.Need-put-length-requires
-put-length-requires c κs = search rules
+put_length_requires : tie.Need-put-length-requires
+put_length_requires c κs = search rules
 
-add-place : tie.Need-overflow-add-place
-add-place c =
+add_place : tie.Need-overflow-add-place
+add_place c =
     let s = c.before.before.before.before.before.before.before.before.before.before in
-    let size = value-size s.args.packet.now s.args.item s.requires.0 in
+    let size = value_size s.args.packet.now s.args.item s.requires.0 in
     let tag = c.before.before.before.before.before.before.put-tag.ensures in
-    omega (arith, item-fits _ size s.requires.1 tag c.before.before.put-length.ensures, s.well-formed)
+    omega (arith, item_fits _ size s.requires.1 tag c.before.before.put_length.ensures, s.well-formed)
 
-sub-put-text : tie.Need-overflow-sub-put-text
-sub-put-text c = search rules
+sub_put_text : tie.Need-overflow-sub-put-text
+sub_put_text c = search rules
 
-part-put-text-start : tie.Need-slice-bounds-put-text-start
-part-put-text-start c = search rules
+part_put_text_start : tie.Need-slice-bounds-put-text-start
+part_put_text_start c = search rules
 
-part-put-text-end : tie.Need-slice-bounds-put-text-end
-part-put-text-end c = search rules
+part_put_text_end : tie.Need-slice-bounds-put-text-end
+part_put_text_end c = search rules
 
-put-text-requires : tie.Need-put-text-requires
-put-text-requires c κs = search rules
+put_text_requires : tie.Need-put-text-requires
+put_text_requires c κs = search rules
 
-add-result : tie.Need-overflow-add-result
-add-result c =
+add_result : tie.Need-overflow-add-result
+add_result c =
     let s = c.before.before.before.before.before.before.before.before.before.before.before.before.before.before.before in
-    let size = value-size s.args.packet.now s.args.item s.requires.0 in
+    let size = value_size s.args.packet.now s.args.item s.requires.0 in
     let tag = c.before.before.before.before.before.before.before.before.before.before.before.put-tag.ensures in
-    omega (arith, item-fits _ size s.requires.1 tag c.before.before.before.before.before.before.before.put-length.ensures, s.well-formed)
+    omega (arith, item_fits _ size s.requires.1 tag c.before.before.before.before.before.before.before.put_length.ensures, s.well-formed)
 
 same_length : tie.Need-same-length
 same_length c = search rules
@@ -58,26 +58,26 @@ same_length c = search rules
 returns : tie.Need-returns
 returns c =
     let s = c.before.before.before.before.before.before.before.before.before.before.before.before.before.before.before in
-    let size = value-size s.args.packet.now s.args.item s.requires.0 in
+    let size = value_size s.args.packet.now s.args.item s.requires.0 in
     let tag = c.before.before.before.before.before.before.before.before.before.before.before.put-tag.ensures in
-    let form = c.before.before.before.before.before.before.before.put-length.ensures in
+    let form = c.before.before.before.before.before.before.before.put_length.ensures in
     let text = value_lent s.args.packet.now s.args.item s.requires.0 in
-    let value = c.before.before.put-text.ensures.after ∙ ap (putInto _ _) text in
-    item-wrote _ size s.requires.1 tag form (all-wrote _ _ _ _ size (value-fits _ size s.requires.1 tag form) _ value)
+    let value = c.before.before.put-text.ensures.after ∙ ap (put_into _ _) text in
+    item_wrote _ size s.requires.1 tag form (all_wrote _ _ _ _ size (value_fits _ size s.requires.1 tag form) _ value)
 
-pub put-item-spec : {M : Type 1} → statement M
-put-item-spec =
+pub put_item_spec : {M : Type 1} → statement M
+put_item_spec =
     tie.close
     (tie.spec
-    add-end
-    put-tag-requires
-    add-after
-    put-length-requires
-    add-place
-    sub-put-text
-    part-put-text-start
-    part-put-text-end
-    put-text-requires
-    add-result
+    add_end
+    put_tag_requires
+    add_after
+    put_length_requires
+    add_place
+    sub_put_text
+    part_put_text_start
+    part_put_text_end
+    put_text_requires
+    add_result
     same_length
     returns)

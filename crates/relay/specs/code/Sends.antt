@@ -3,35 +3,35 @@
 use Rattle.std.specs.Prelude.{ℕ, ◌+◌, ◌≤◌, ◌≡◌, cond, List, ◌++◌, ltb, length, drop}
 use Rattle.refusal.specs.Answer.{Answer, given, refused}
 use Rattle.packet.specs.Structure.{structure, ItemsFrom}
-use Rattle.packet.specs.Encode.{piecesIn, itemsBytes, canonical}
+use Rattle.packet.specs.Encode.{pieces_in, items_bytes, canonical}
 use Rattle.writer.specs.declared.Written.{Written}
-use Rattle.relay.specs.Forwards.{forwardSaid}
+use Rattle.relay.specs.Forwards.{forward_said}
 use Rattle.relay.specs.declared.Forwarding.{Forwarding}
 
 -- the items of a packet, as they are sent on
-abbrev pub itemsFor : List ℕ → List ℕ
-itemsFor p = itemsBytes (piecesIn (structure p))
+abbrev pub items_for : List ℕ → List ℕ
+items_for p = items_bytes (pieces_in (structure p))
 
 -- a packet of right structure whose items begin at a place, and have so many bytes more than as they are sent on
 pub record LongerBy (p : List ℕ) (from longer : ℕ) : Type 0 where
   pub walks : ItemsFrom p from
-  pub sizes : from + (length (itemsFor p) + longer) ≡ length p
+  pub sizes : from + (length (items_for p) + longer) ≡ length p
 
 -- all that is sent on has so many bytes, so many of them the items', and there is room for it
 pub record Sendable (p : List ℕ) (from size items room : ℕ) : Type 0 where
   pub walks : ItemsFrom p from
   pub whole : size ≡ length (canonical p)
-  pub part : items ≡ length (itemsFor p)
+  pub part : items ≡ length (items_for p)
   pub fits : size ≤ room
 
 -- bytes q sent: their number, or 18
-abbrev pub sentAnswer : List ℕ → List ℕ → Answer Written
-sentAnswer q o = cond (ltb (length o) (length q)) (refused 18 0 0) (given (record { size = length q }))
+abbrev pub sent_answer : List ℕ → List ℕ → Answer Written
+sent_answer q o = cond (ltb (length o) (length q)) (refused 18 0 0) (given (record { size = length q }))
 
 -- at the front of the output, where there is room for them
-abbrev pub sentOutput : List ℕ → List ℕ → List ℕ
-sentOutput q o = cond (ltb (length o) (length q)) o (q ++ drop (length q) o)
+abbrev pub sent_output : List ℕ → List ℕ → List ℕ
+sent_output q o = cond (ltb (length o) (length q)) o (q ++ drop (length q) o)
 
 pub record Sends (q o : List ℕ) (r : Forwarding) (o' : List ℕ) : Type 0 where
-  pub answer : forwardSaid r ≡ sentAnswer q o
-  pub output : o' ≡ sentOutput q o
+  pub answer : forward_said r ≡ sent_answer q o
+  pub output : o' ≡ sent_output q o

@@ -5,14 +5,14 @@ use borrow.Author.Tests.{eq-eqb, ne_eqb}
 use Rattle.rows.proofs.is_good_part.Statement.{statement}
 use Rattle.rows.proofs.is_good_part.Tie as tie
 
-add-result : tie.Need-overflow-add-result
-add-result c = search rules
+add_result : tie.Need-overflow-add-result
+add_result c = search rules
 
 returns : tie.Need-returns
 returns c = rw (eq-eqb _ 0 c.if1.true)
 
-returns-2 : tie.Need-returns-2
-returns-2 c = rw (ne_eqb _ 0 c.if1.false)
+returns_2 : tie.Need-returns-2
+returns_2 c = rw (ne_eqb _ 0 c.if1.false)
 
-pub is-good-part-spec : {M : Type 1} → statement M
-is-good-part-spec = tie.close (tie.spec add-result returns returns-2)
+pub is_good_part_spec : {M : Type 1} → statement M
+is_good_part_spec = tie.close (tie.spec add_result returns returns_2)

@@ -7,8 +7,8 @@ use Rattle.rows.proofs.is_good_tag.Tie as tie
 returns : tie.Need-returns
 returns c = search cases
 
-returns-2 : tie.Need-returns-2
-returns-2 c = search cases
+returns_2 : tie.Need-returns-2
+returns_2 c = search cases
 
-pub is-good-tag-spec : {M : Type 1} → statement M
-is-good-tag-spec = tie.close (tie.spec returns returns-2)
+pub is_good_tag_spec : {M : Type 1} → statement M
+is_good_tag_spec = tie.close (tie.spec returns returns_2)

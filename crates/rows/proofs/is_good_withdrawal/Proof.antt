@@ -6,11 +6,11 @@ use borrow.Author.Rules.{rules}
 use Rattle.rows.proofs.is_good_withdrawal.Statement.{statement}
 use Rattle.rows.proofs.is_good_withdrawal.Tie as tie
 
-is-good-tag-requires : tie.Need-is-good-tag-requires
-is-good-tag-requires c κs = search rules
+is_good_tag_requires : tie.Need-is-good-tag-requires
+is_good_tag_requires c κs = search rules
 
-is-needed-requires : tie.Need-is-needed-requires
-is-needed-requires c κs = search rules
+is_needed_requires : tie.Need-is-needed-requires
+is_needed_requires c κs = search rules
 
 returns : tie.Need-returns
 returns c =
@@ -19,20 +19,20 @@ returns c =
     let tag = kind.before.before in
     rw (sym tag.before.is-good-tag.ensures ∙ tag.if1.true, eq-eqb _ 5 kind.if2.true, sym needed.is-needed.ensures ∙ c.if3.true)
 
-returns-2 : tie.Need-returns-2
-returns-2 c =
+returns_2 : tie.Need-returns-2
+returns_2 c =
     let needed = c.before.before in
     let kind = needed.before in
     let tag = kind.before.before in
     rw (sym tag.before.is-good-tag.ensures ∙ tag.if1.true, eq-eqb _ 5 kind.if2.true, sym needed.is-needed.ensures ∙ c.before.if3.false)
 
-returns-3 : tie.Need-returns-3
-returns-3 c =
+returns_3 : tie.Need-returns-3
+returns_3 c =
     let tag = c.before.before in
     rw (sym tag.before.is-good-tag.ensures ∙ tag.if1.true, ne_eqb _ 5 c.if2.false)
 
-returns-4 : tie.Need-returns-4
-returns-4 c = rw (sym c.before.is-good-tag.ensures ∙ c.if1.false)
+returns_4 : tie.Need-returns-4
+returns_4 c = rw (sym c.before.is-good-tag.ensures ∙ c.if1.false)
 
-pub is-good-withdrawal-spec : {M : Type 1} → statement M
-is-good-withdrawal-spec = tie.close (tie.spec is-good-tag-requires is-needed-requires returns returns-2 returns-3 returns-4)
+pub is_good_withdrawal_spec : {M : Type 1} → statement M
+is_good_withdrawal_spec = tie.close (tie.spec is_good_tag_requires is_needed_requires returns returns_2 returns_3 returns_4)

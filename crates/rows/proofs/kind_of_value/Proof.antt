@@ -7,40 +7,40 @@ use Rattle.rows.proofs.kind_of_value.Tie as tie
 enum_told : tie.Need-enum-told
 enum_told c = search rules
 
-enum-told-2 : tie.Need-enum-told-2
-enum-told-2 c = search rules
+enum_told_2 : tie.Need-enum-told-2
+enum_told_2 c = search rules
 
-enum-known-shape : tie.Need-enum-known-shape
-enum-known-shape c = search rules
+enum_known_shape : tie.Need-enum-known-shape
+enum_known_shape c = search rules
 
-is-mark-requires : tie.Need-is-mark-requires
-is-mark-requires c κs = search rules
+is_mark_requires : tie.Need-is-mark-requires
+is_mark_requires c κs = search rules
 
 returns : tie.Need-returns
 returns c = rw (c.before.before.before.before.shape.given.1, c.before.before.if1.true, ← c.before.is-mark.ensures, c.if2.true)
 
-returns-2 : tie.Need-returns-2
-returns-2 c = search rules
+returns_2 : tie.Need-returns-2
+returns_2 c = search rules
 
-returns-3 : tie.Need-returns-3
-returns-3 c = search rules
+returns_3 : tie.Need-returns-3
+returns_3 c = search rules
 
-returns-4 : tie.Need-returns-4
-returns-4 c = rw (c.before.before.before.before.shape.given.1, c.before.before.if1.true, ← c.before.is-mark.ensures, c.if2.false)
+returns_4 : tie.Need-returns-4
+returns_4 c = rw (c.before.before.before.before.shape.given.1, c.before.before.if1.true, ← c.before.is-mark.ensures, c.if2.false)
 
-returns-5 : tie.Need-returns-5
-returns-5 c = search rules
+returns_5 : tie.Need-returns-5
+returns_5 c = search rules
 
-pub kind-of-value-spec : {M : Type 1} → statement M
-kind-of-value-spec =
+pub kind_of_value_spec : {M : Type 1} → statement M
+kind_of_value_spec =
     tie.close
     (tie.spec
     enum_told
-    enum-told-2
-    enum-known-shape
-    is-mark-requires
+    enum_told_2
+    enum_known_shape
+    is_mark_requires
     returns
-    returns-2
-    returns-3
-    returns-4
-    returns-5)
+    returns_2
+    returns_3
+    returns_4
+    returns_5)

@@ -10,79 +10,79 @@ use Rattle.rows.proofs.row_at.Tie as tie
 mul_at : tie.Need-overflow-mul-at
 mul_at c = search rules
 
-mul-tag : tie.Need-overflow-mul-tag
-mul-tag c = search rules
+mul_tag : tie.Need-overflow-mul-tag
+mul_tag c = search rules
 
-shared-slice-read-tag : tie.Need-shared-slice-read-tag
-shared-slice-read-tag c = search rules
+shared_slice_read_tag : tie.Need-shared-slice-read-tag
+shared_slice_read_tag c = search rules
 
-add-kind : tie.Need-overflow-add-kind
-add-kind c = search rules
+add_kind : tie.Need-overflow-add-kind
+add_kind c = search rules
 
-mul-kind : tie.Need-overflow-mul-kind
-mul-kind c = search rules
+mul_kind : tie.Need-overflow-mul-kind
+mul_kind c = search rules
 
-shared-slice-read-kind : tie.Need-shared-slice-read-kind
-shared-slice-read-kind c = search rules
+shared_slice_read_kind : tie.Need-shared-slice-read-kind
+shared_slice_read_kind c = search rules
 
-add-code : tie.Need-overflow-add-code
-add-code c = search rules
+add_code : tie.Need-overflow-add-code
+add_code c = search rules
 
-mul-code : tie.Need-overflow-mul-code
-mul-code c = search rules
+mul_code : tie.Need-overflow-mul-code
+mul_code c = search rules
 
-shared-slice-read-code : tie.Need-shared-slice-read-code
-shared-slice-read-code c = search rules
+shared_slice_read_code : tie.Need-shared-slice-read-code
+shared_slice_read_code c = search rules
 
-add-part : tie.Need-overflow-add-part
-add-part c = search rules
+add_part : tie.Need-overflow-add-part
+add_part c = search rules
 
-mul-part : tie.Need-overflow-mul-part
-mul-part c = search rules
+mul_part : tie.Need-overflow-mul-part
+mul_part c = search rules
 
-shared-slice-read-part : tie.Need-shared-slice-read-part
-shared-slice-read-part c = search rules
+shared_slice_read_part : tie.Need-shared-slice-read-part
+shared_slice_read_part c = search rules
 
 returns : tie.Need-returns
 unfolding row_at
 returns c = refl
 
-word-at-requires : tie.Need-word-at-requires
-word-at-requires c κs = search rules
+word_at_requires : tie.Need-word-at-requires
+word_at_requires c κs = search rules
 
-word-at-requires-2 : tie.Need-word-at-requires-2
-word-at-requires-2 c κs = search rules
+word_at_requires_2 : tie.Need-word-at-requires-2
+word_at_requires_2 c κs = search rules
 
-word-at-requires-3 : tie.Need-word-at-requires-3
-word-at-requires-3 c κs = search rules
+word_at_requires_3 : tie.Need-word-at-requires-3
+word_at_requires_3 c κs = search rules
 
-word-at-requires-4 : tie.Need-word-at-requires-4
-word-at-requires-4 c κs = search rules
+word_at_requires_4 : tie.Need-word-at-requires-4
+word_at_requires_4 c κs = search rules
 
-returns-2 : tie.Need-returns-2
+returns_2 : tie.Need-returns-2
 unfolding row_at
-returns-2 c =
+returns_2 c =
     rw (c.before.before.before.word_at.ensures, c.before.before.word-at2.ensures, c.before.word-at3.ensures, c.word-at4.ensures, add-zero)
 
-pub row-at-spec : {M : Type 1} → statement M
-row-at-spec =
+pub row_at_spec : {M : Type 1} → statement M
+row_at_spec =
     tie.close
     (tie.spec
     mul_at
-    mul-tag
-    shared-slice-read-tag
-    add-kind
-    mul-kind
-    shared-slice-read-kind
-    add-code
-    mul-code
-    shared-slice-read-code
-    add-part
-    mul-part
-    shared-slice-read-part
+    mul_tag
+    shared_slice_read_tag
+    add_kind
+    mul_kind
+    shared_slice_read_kind
+    add_code
+    mul_code
+    shared_slice_read_code
+    add_part
+    mul_part
+    shared_slice_read_part
     returns
-    word-at-requires
-    word-at-requires-2
-    word-at-requires-3
-    word-at-requires-4
-    returns-2)
+    word_at_requires
+    word_at_requires_2
+    word_at_requires_3
+    word_at_requires_4
+    returns_2)

@@ -8,62 +8,62 @@ use lib.Signed.{mag, lt_z}
 use mir.Syntax.{w64}
 use mir.Val.{SFits}
 use mir.Facts.{to_z-of_z}
-use Rattle.scale.specs.Scales.{valueBelow, valueFar}
-use Rattle.scale.specs.Conversions.{codesAway, code_of}
-use Rattle.scale.proofs.Whole.{inside-small}
-use Rattle.scale.proofs.Items.{neither_left, neither_right, origin-small, origin-fits, codes_same, codes-round}
-use Rattle.scale.proofs.Numbers.{code-some, code-none, few-codes}
+use Rattle.scale.specs.Scales.{value_below, value_far}
+use Rattle.scale.specs.Conversions.{codes_away, code_of}
+use Rattle.scale.proofs.Whole.{inside_small}
+use Rattle.scale.proofs.Items.{neither_left, neither_right, origin_small, origin_fits, codes_same, codes_round}
+use Rattle.scale.proofs.Numbers.{code_some, code_none, few_codes}
 use Rattle.scale.proofs.code_of.Statement.{statement}
 use Rattle.scale.proofs.code_of.Tie as tie
 
-scale-of-requires : tie.Need-scale-of-requires
-scale-of-requires c κs = search rules
+scale_of_requires : tie.Need-scale-of-requires
+scale_of_requires c κs = search rules
 
 -- the value and the origin are within 64 bits
-value-fits : (a : tie.Start) → SFits w64 a.args.value
-value-fits a = search rules
+value_fits : (a : tie.Start) → SFits w64 a.args.value
+value_fits a = search rules
 
-value-small : (a : tie.Start) → mag a.args.value < 2 ^ 62
-value-small a =
+value_small : (a : tie.Start) → mag a.args.value < 2 ^ 62
+value_small a =
     let i = a.args.item in
     let r = a.requires.0 in
-    inside-small i.low i.high a.args.value r.low_small r.high_small
+    inside_small i.low i.high a.args.value r.low_small r.high_small
     (neither_left (lt_z a.args.value i.low) _ a.requires.1) (neither_right (lt_z a.args.value i.low) _ a.requires.1)
 
-origin-is : (b : tie.After-scale-of) → SFits w64 b.scale_of.result.origin
-origin-is b = origin-fits b.before.args.item b.before.requires.0 b.scale_of.ensures
+origin_is : (b : tie.After-scale-of) → SFits w64 b.scale_of.result.origin
+origin_is b = origin_fits b.before.args.item b.before.requires.0 b.scale_of.ensures
 
-apart-requires : tie.Need-apart-requires
-apart-requires c κs =
+apart_requires : tie.Need-apart-requires
+apart_requires c κs =
     let b = c.before in
     let a = b.before in
-    rw (to_z-of_z (value-fits a), to_z-of_z (origin-is b), b.scale_of.ensures.from) (origin-small a.args.item a.requires.0, value-small a)
+    rw (to_z-of_z (value_fits a), to_z-of_z (origin_is b), b.scale_of.ensures.from) (origin_small a.args.item a.requires.0, value_small a)
 
 -- the value's distance, and the code's
-far-is : (c : tie.After-apart) → c.apart.result ≡ valueFar c.before.before.before.args.item c.before.before.before.args.value
-far-is c =
+far_is : (c : tie.After-apart) → c.apart.result ≡ value_far c.before.before.before.args.item c.before.before.before.args.value
+far_is c =
     let b = c.before.before in
-    rw (to_z-of_z (value-fits b.before), to_z-of_z (origin-is b), b.scale_of.ensures.from) at c.apart.ensures
+    rw (to_z-of_z (value_fits b.before), to_z-of_z (origin_is b), b.scale_of.ensures.from) at c.apart.ensures
 
-rounded-requires : tie.Need-rounded-requires
-rounded-requires c κs =
+rounded_requires : tie.Need-rounded-requires
+rounded_requires c κs =
     let b = c.before.before in
     let a = b.before in
-    rw (far-is c) (codes-round a.args.item a.requires.0 b.scale_of.ensures a.args.value a.requires.1)
+    rw (far_is c) (codes_round a.args.item a.requires.0 b.scale_of.ensures a.args.value a.requires.1)
 
 codes-away : (c : tie.After-rounded) → let a = c.before.before.before.before in
-    c.rounded.result ≡ codesAway a.args.item a.args.value
+    c.rounded.result ≡ codes_away a.args.item a.args.value
 codes-away c =
     let b = c.before.before.before in
     let a = b.before in
-    rw (c.rounded.ensures, far-is c.before)
-    (codes_same a.args.item a.requires.0 b.scale_of.ensures (valueFar a.args.item a.args.value))
+    rw (c.rounded.ensures, far_is c.before)
+    (codes_same a.args.item a.requires.0 b.scale_of.ensures (value_far a.args.item a.args.value))
 
-turned-requires : tie.Need-turned-requires
-turned-requires c κs =
+turned_requires : tie.Need-turned-requires
+turned_requires c κs =
     let b = c.before.before.before.before in
     let a = b.before in
-    rw (codes-away c.before, b.scale_of.ensures.all_codes) (few-codes a.args.item a.requires.0 a.args.value a.requires.1)
+    rw (codes-away c.before, b.scale_of.ensures.all_codes) (few_codes a.args.item a.requires.0 a.args.value a.requires.1)
 
 returns : tie.Need-returns
 unfolding code_of
@@ -72,23 +72,23 @@ returns c =
     let a = b.before in
     let k = b.scale_of.ensures in
     let e = codes-away c.before.before in
-    rw (c.turned.ensures, to_z-of_z (value-fits a), to_z-of_z (origin-is b), k.from, k.all_codes, e)
-    (code-some a.args.item (valueBelow a.args.item a.args.value) _ (omega arith))
+    rw (c.turned.ensures, to_z-of_z (value_fits a), to_z-of_z (origin_is b), k.from, k.all_codes, e)
+    (code_some a.args.item (value_below a.args.item a.args.value) _ (omega arith))
 
-returns-2 : tie.Need-returns-2
+returns_2 : tie.Need-returns-2
 unfolding code_of
-returns-2 c =
+returns_2 c =
     let a = c.before.before.before.before.before in
     let e = codes-away c.before in
-    rw e (code-none a.args.item (valueBelow a.args.item a.args.value) _ (omega arith))
+    rw e (code_none a.args.item (value_below a.args.item a.args.value) _ (omega arith))
 
-pub code-of-spec : {M : Type 1} → statement M
-code-of-spec =
+pub code_of_spec : {M : Type 1} → statement M
+code_of_spec =
     tie.close
     (tie.spec
-    scale-of-requires
-    apart-requires
-    rounded-requires
-    turned-requires
+    scale_of_requires
+    apart_requires
+    rounded_requires
+    turned_requires
     returns
-    returns-2)
+    returns_2)

@@ -7,8 +7,8 @@ use Rattle.scale.proofs.is_below.Tie as tie
 returns : tie.Need-returns
 returns c = rw c.before.if1.true
 
-returns-2 : tie.Need-returns-2
-returns-2 c = search rules
+returns_2 : tie.Need-returns-2
+returns_2 c = search rules
 
-pub is-below-spec : {M : Type 1} → statement M
-is-below-spec = tie.close (tie.spec returns returns-2)
+pub is_below_spec : {M : Type 1} → statement M
+is_below_spec = tie.close (tie.spec returns returns_2)

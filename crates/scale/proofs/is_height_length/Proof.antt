@@ -7,8 +7,8 @@ use Rattle.scale.proofs.is_height_length.Tie as tie
 returns : tie.Need-returns
 returns c = search cases
 
-returns-2 : tie.Need-returns-2
-returns-2 c = search cases
+returns_2 : tie.Need-returns-2
+returns_2 c = search cases
 
-pub is-height-length-spec : {M : Type 1} → statement M
-is-height-length-spec = tie.close (tie.spec returns returns-2)
+pub is_height_length_spec : {M : Type 1} → statement M
+is_height_length_spec = tie.close (tie.spec returns returns_2)

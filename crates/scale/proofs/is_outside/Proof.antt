@@ -14,13 +14,13 @@ returns c =
     let low : SFits w64 a.args.low = search rules in
     rw (rw (to_z-of_z value, to_z-of_z low) at c.if1.true)
 
-returns-2 : tie.Need-returns-2
-returns-2 c =
+returns_2 : tie.Need-returns-2
+returns_2 c =
     let a = c.before in
     let value : SFits w64 a.args.value = search rules in
     let low : SFits w64 a.args.low = search rules in
     let high : SFits w64 a.args.high = search rules in
     rw (to_z-of_z value, to_z-of_z high, rw (to_z-of_z value, to_z-of_z low) at c.if1.false)
 
-pub is-outside-spec : {M : Type 1} → statement M
-is-outside-spec = tie.close (tie.spec returns returns-2)
+pub is_outside_spec : {M : Type 1} → statement M
+is_outside_spec = tie.close (tie.spec returns returns_2)

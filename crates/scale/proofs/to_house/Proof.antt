@@ -6,81 +6,81 @@ use mathlib.Core.Bool.{false}
 use mir.Syntax.{w64}
 use mir.Val.{SFits}
 use mir.Facts.{to_z-of_z}
-use Rattle.catalogue.specs.Extended.{isExtended}
-use Rattle.scale.specs.Conversions.{toHouse}
-use Rattle.scale.proofs.Given.{Scaled, scaled-rule, scaled-known, every-code-converts, no-number-20}
+use Rattle.catalogue.specs.Extended.{is_extended}
+use Rattle.scale.specs.Conversions.{to_house}
+use Rattle.scale.proofs.Given.{Scaled, scaled_rule, scaled_known, every_code_converts, no_number_20}
 use Rattle.scale.proofs.to_house.Statement.{statement}
 use Rattle.scale.proofs.to_house.Tie as tie
 
-is-extended-requires : tie.Need-is-extended-requires
-is-extended-requires c κs = search rules
+is_extended_requires : tie.Need-is-extended-requires
+is_extended_requires c κs = search rules
 
-height-to-house-requires : tie.Need-height-to-house-requires
-height-to-house-requires c κs = sym c.before.is-extended.ensures ∙ c.if1.true
+height_to_house_requires : tie.Need-height-to-house-requires
+height_to_house_requires c κs = sym c.before.is-extended.ensures ∙ c.if1.true
 
 returns : tie.Need-returns
 returns c = search rules
 
-plain : (c : tie.Else1) → isExtended c.before.before.args.tag ≡ false
+plain : (c : tie.Else1) → is_extended c.before.before.args.tag ≡ false
 plain c = sym c.before.is-extended.ensures ∙ c.if1.false
 
-scaled-item-requires : tie.Need-scaled-item-requires
-scaled-item-requires c κs = plain c
+scaled_item_requires : tie.Need-scaled-item-requires
+scaled_item_requires c κs = plain c
 
-enum-known-item : tie.Need-enum-known-item
-enum-known-item c = search rules
+enum_known_item : tie.Need-enum-known-item
+enum_known_item c = search rules
 
-has-scale : (c : tie.After-known-told) → Scaled c.before.before.before.before.before.before.args.tag c.before.item.given.0.0
-has-scale c = scaled-known _ _ (sym c.before.before.before.scaled-item.ensures ∙ c.before.item.given.1)
+has_scale : (c : tie.After-known-told) → Scaled c.before.before.before.before.before.before.args.tag c.before.item.given.0.0
+has_scale c = scaled_known _ _ (sym c.before.before.before.scaled-item.ensures ∙ c.before.item.given.1)
 
-is-number-requires : tie.Need-is-number-requires
-is-number-requires c κs = scaled-rule (has-scale c)
+is_number_requires : tie.Need-is-number-requires
+is_number_requires c κs = scaled_rule (has_scale c)
 
-house-of-requires : tie.Need-house-of-requires
-house-of-requires c κs = (scaled-rule (has-scale c.before.before), sym c.before.is_number.ensures ∙ c.if2.true)
+house_of_requires : tie.Need-house-of-requires
+house_of_requires c κs = (scaled_rule (has_scale c.before.before), sym c.before.is_number.ensures ∙ c.if2.true)
 
-returns-2 : tie.Need-returns-2
-returns-2 c =
+returns_2 : tie.Need-returns-2
+returns_2 c =
     let n = c.before.before in
     let fits : SFits w64 c.house-of.result = search rules in
-    rw (every-code-converts (has-scale n.before) _ _ (sym n.is_number.ensures ∙ c.before.if2.true), to_z-of_z fits, c.house-of.ensures)
+    rw (every_code_converts (has_scale n.before) _ _ (sym n.is_number.ensures ∙ c.before.if2.true), to_z-of_z fits, c.house-of.ensures)
 
-refuse-requires : tie.Need-refuse-requires
-refuse-requires c κs = search rules
+refuse_requires : tie.Need-refuse-requires
+refuse_requires c κs = search rules
 
 enum_told : tie.Need-enum-told
 enum_told c = search rules
 
-refuse-requires-2 : tie.Need-refuse-requires-2
-refuse-requires-2 c κs = search rules
+refuse_requires_2 : tie.Need-refuse-requires-2
+refuse_requires_2 c κs = search rules
 
-returns-3 : tie.Need-returns-3
-returns-3 c =
+returns_3 : tie.Need-returns-3
+returns_3 c =
     let n = c.before.before in
     let e = c.refuse.ensures in
-    rw (no-number-20 (has-scale n.before) _ _ (sym n.is_number.ensures ∙ c.before.if2.false), e.0, e.1, e.2)
+    rw (no_number_20 (has_scale n.before) _ _ (sym n.is_number.ensures ∙ c.before.if2.false), e.0, e.1, e.2)
 
-returns-4 : tie.Need-returns-4
-unfolding toHouse
-returns-4 c =
+returns_4 : tie.Need-returns-4
+unfolding to_house
+returns_4 c =
     let f = c.before.before.before in
     let e = c.refuse2.ensures in
     rw (plain f.before, ← f.scaled-item.ensures, c.before.enum_told.given.1, e.0, e.1, e.2)
 
-pub to-house-spec : {M : Type 1} → statement M
-to-house-spec =
+pub to_house_spec : {M : Type 1} → statement M
+to_house_spec =
     tie.close
     (tie.spec
-    is-extended-requires
-    height-to-house-requires
+    is_extended_requires
+    height_to_house_requires
     returns
-    scaled-item-requires
-    enum-known-item
-    is-number-requires
-    house-of-requires
-    returns-2
-    refuse-requires
+    scaled_item_requires
+    enum_known_item
+    is_number_requires
+    house_of_requires
+    returns_2
+    refuse_requires
     enum_told
-    refuse-requires-2
-    returns-3
-    returns-4)
+    refuse_requires_2
+    returns_3
+    returns_4)

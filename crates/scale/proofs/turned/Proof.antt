@@ -4,14 +4,14 @@ use borrow.Author.Rules.{rules}
 use Rattle.scale.proofs.turned.Statement.{statement}
 use Rattle.scale.proofs.turned.Tie as tie
 
-sub-result : tie.Need-overflow-sub-result
-sub-result c = search rules
+sub_result : tie.Need-overflow-sub-result
+sub_result c = search rules
 
 returns : tie.Need-returns
 returns c = rw c.if1.true
 
-returns-2 : tie.Need-returns-2
-returns-2 c = search rules
+returns_2 : tie.Need-returns-2
+returns_2 c = search rules
 
-pub turned-spec : {M : Type 1} → statement M
-turned-spec = tie.close (tie.spec sub-result returns returns-2)
+pub turned_spec : {M : Type 1} → statement M
+turned_spec = tie.close (tie.spec sub_result returns returns_2)

@@ -10,8 +10,8 @@ use Rattle.spelling.proofs.has_room.Tie as tie
 returns : tie.Need-returns
 returns c = (λ e. clash (sym e), λ e. omega arith)
 
-returns-2 : tie.Need-returns-2
-returns-2 c = (λ e. omega (arith, leb-true), λ e. omega (arith, leb-false))
+returns_2 : tie.Need-returns-2
+returns_2 c = (λ e. omega (arith, leb-true), λ e. omega (arith, leb-false))
 
-pub has-room-spec : {M : Type 1} → statement M
-has-room-spec = tie.close (tie.spec returns returns-2)
+pub has_room_spec : {M : Type 1} → statement M
+has_room_spec = tie.close (tie.spec returns returns_2)

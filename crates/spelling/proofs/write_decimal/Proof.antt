@@ -2,13 +2,13 @@
 -- Assumes nothing.
 use native.Mathlib.Omega.{arith}
 use borrow.Author.Rules.{rules}
-use Rattle.spelling.proofs.Digits.{decimal-split}
-use Rattle.spelling.proofs.Putting.{high-room, low-room, both-wrote}
+use Rattle.spelling.proofs.Digits.{decimal_split}
+use Rattle.spelling.proofs.Putting.{high_room, low_room, both_wrote}
 use Rattle.spelling.proofs.write_decimal.Statement.{statement}
 use Rattle.spelling.proofs.write_decimal.Tie as tie
 
-write-low-requires : tie.Need-write-low-requires
-write-low-requires c κs = search rules
+write_low_requires : tie.Need-write-low-requires
+write_low_requires c κs = search rules
 
 same_length : tie.Need-same-length
 same_length c = search rules
@@ -16,34 +16,34 @@ same_length c = search rules
 returns : tie.Need-returns
 returns c = search rules
 
-write-high-requires : tie.Need-write-high-requires
-write-high-requires c κs =
+write_high_requires : tie.Need-write-high-requires
+write_high_requires c κs =
     let s = c.before.before.before in
-    (omega arith, high-room _ (decimal-split 8 s.args.n c.before.if1.false (omega arith)) s.requires)
+    (omega arith, high_room _ (decimal_split 8 s.args.n c.before.if1.false (omega arith)) s.requires)
 
-write-eight-requires : tie.Need-write-eight-requires
-write-eight-requires c κs =
+write_eight_requires : tie.Need-write-eight-requires
+write_eight_requires c κs =
     let s = c.before.before.before in
     let t = s.before.before.before.before in
-    (omega arith, low-room _ (decimal-split 8 t.args.n s.before.before.if1.false (omega arith)) s.write-high.ensures t.requires)
+    (omega arith, low_room _ (decimal_split 8 t.args.n s.before.before.if1.false (omega arith)) s.write-high.ensures t.requires)
 
-same-length-2 : tie.Need-same-length-2
-same-length-2 c = search rules
+same_length_2 : tie.Need-same-length-2
+same_length_2 c = search rules
 
-returns-2 : tie.Need-returns-2
-returns-2 c =
+returns_2 : tie.Need-returns-2
+returns_2 c =
     let s = c.before.before.before.before.before.before in
     let t = s.before.before.before.before in
-    both-wrote _ (decimal-split 8 t.args.n s.before.before.if1.false (omega arith)) s.write-high.ensures c.before.before.write-eight.ensures
+    both_wrote _ (decimal_split 8 t.args.n s.before.before.if1.false (omega arith)) s.write-high.ensures c.before.before.write-eight.ensures
 
-pub write-decimal-spec : {M : Type 1} → statement M
-write-decimal-spec =
+pub write_decimal_spec : {M : Type 1} → statement M
+write_decimal_spec =
     tie.close
     (tie.spec
-    write-low-requires
+    write_low_requires
     same_length
     returns
-    write-high-requires
-    write-eight-requires
-    same-length-2
-    returns-2)
+    write_high_requires
+    write_eight_requires
+    same_length_2
+    returns_2)

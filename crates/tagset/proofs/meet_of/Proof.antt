@@ -9,5 +9,5 @@ returns : tie.Need-returns
 unfolding meet
 returns c = refl
 
-pub meet-of-spec : {M : Type 1} → statement M
-meet-of-spec = tie.close (tie.spec returns)
+pub meet_of_spec : {M : Type 1} → statement M
+meet_of_spec = tie.close (tie.spec returns)

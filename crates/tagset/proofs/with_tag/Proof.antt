@@ -9,24 +9,24 @@ use borrow.Author.Rules.{rules}
 use Rattle.tagset.proofs.with_tag.Statement.{statement}
 use Rattle.tagset.proofs.with_tag.Tie as tie
 
-shl-t4 : tie.Need-overflow-shl-t4
-shl-t4 c = search rules
+shl_t4 : tie.Need-overflow-shl-t4
+shl_t4 c = search rules
 
 returns : tie.Need-returns
 unfolding with_tag
 returns c = rw (lt-ltb _ _ c.before.if1.true, one_shl _ c.before.if1.true)
 
-shl-t7 : tie.Need-overflow-shl-t7
-shl-t7 c = search rules
+shl_t7 : tie.Need-overflow-shl-t7
+shl_t7 c = search rules
 
-returns-2 : tie.Need-returns-2
+returns_2 : tie.Need-returns-2
 unfolding with_tag
-returns-2 c =
+returns_2 c =
     rw (le-ltb _ _ c.before.before.if1.false, lt-ltb _ _ c.before.if2.true, one_shl (c.before.before.before.args.tag - 64) (omega arith))
 
-returns-3 : tie.Need-returns-3
+returns_3 : tie.Need-returns-3
 unfolding with_tag
-returns-3 c = rw (le-ltb _ _ c.before.if1.false, le-ltb _ _ c.if2.false)
+returns_3 c = rw (le-ltb _ _ c.before.if1.false, le-ltb _ _ c.if2.false)
 
-pub with-tag-spec : {M : Type 1} → statement M
-with-tag-spec = tie.close (tie.spec shl-t4 returns shl-t7 returns-2 returns-3)
+pub with_tag_spec : {M : Type 1} → statement M
+with_tag_spec = tie.close (tie.spec shl_t4 returns shl_t7 returns_2 returns_3)

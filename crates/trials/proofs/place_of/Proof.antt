@@ -6,43 +6,43 @@ use lib.ListN.{length}
 use Rattle.trials.proofs.place_of.Statement.{statement}
 use Rattle.trials.proofs.place_of.Tie as tie
 
-abbrev invariant-loop : tie.invariant-loop
-invariant-loop input from least most at₀ at = (from ≤ at) × (at ≤ length input)
+abbrev invariant_loop : tie.invariant-loop
+invariant_loop input from least most at₀ at = (from ≤ at) × (at ≤ length input)
 
-abbrev decreases-loop : tie.decreases-loop
-decreases-loop input from least most at₀ at = length input - at
+abbrev decreases_loop : tie.decreases-loop
+decreases_loop input from least most at₀ at = length input - at
 
-loop-holds : tie.Need-loop-init invariant-loop decreases-loop
-loop-holds c = search rules
+loop_holds : tie.Need-loop-init invariant_loop decreases_loop
+loop_holds c = search rules
 
-shared-slice-read-byte : tie.Need-shared-slice-read-byte invariant-loop decreases-loop
-shared-slice-read-byte c = search rules
+shared_slice_read_byte : tie.Need-shared-slice-read-byte invariant_loop decreases_loop
+shared_slice_read_byte c = search rules
 
-returns : tie.Need-returns invariant-loop decreases-loop
+returns : tie.Need-returns invariant_loop decreases_loop
 returns c = search rules
 
-add_at : tie.Need-overflow-add-at invariant-loop decreases-loop
+add_at : tie.Need-overflow-add-at invariant_loop decreases_loop
 add_at c = search rules
 
-loop-less : tie.Need-loop-smaller invariant-loop decreases-loop
-loop-less c = search rules
+loop_less : tie.Need-loop-smaller invariant_loop decreases_loop
+loop_less c = search rules
 
-loop-again : tie.Need-loop-preserved invariant-loop decreases-loop
-loop-again c = search rules
+loop_again : tie.Need-loop-preserved invariant_loop decreases_loop
+loop_again c = search rules
 
-returns-2 : tie.Need-returns-2 invariant-loop decreases-loop
-returns-2 c = search rules
+returns_2 : tie.Need-returns-2 invariant_loop decreases_loop
+returns_2 c = search rules
 
-pub place-of-spec : {M : Type 1} → statement M
-place-of-spec =
+pub place_of_spec : {M : Type 1} → statement M
+place_of_spec =
     tie.close
     (tie.spec
-    invariant-loop
-    decreases-loop
-    loop-holds
-    shared-slice-read-byte
+    invariant_loop
+    decreases_loop
+    loop_holds
+    shared_slice_read_byte
     returns
     add_at
-    loop-less
-    loop-again
-    returns-2)
+    loop_less
+    loop_again
+    returns_2)

@@ -6,23 +6,23 @@ use lib.Seq.{length-take-le}
 use Rattle.trials.proofs.read_into.Statement.{statement}
 use Rattle.trials.proofs.read_into.Tie as tie
 
-element-copy-out-end : tie.Need-element-copy-out-end
-element-copy-out-end c = search rules
+element_copy_out_end : tie.Need-element-copy-out-end
+element_copy_out_end c = search rules
 
-known-of-requires : tie.Need-known-of-requires
-known-of-requires c κs = search rules
+known_of_requires : tie.Need-known-of-requires
+known_of_requires c κs = search rules
 
-slice-relend-prefix-read : tie.Need-slice-relend-prefix-read
-slice-relend-prefix-read c = search rules
+slice_relend_prefix_read : tie.Need-slice-relend-prefix-read
+slice_relend_prefix_read c = search rules
 
-slice-aggregate-read : tie.Need-slice-aggregate-read
-slice-aggregate-read c = sym (length-take-le _ _ (slice-relend-prefix-read c.before))
+slice_aggregate_read : tie.Need-slice-aggregate-read
+slice_aggregate_read c = sym (length-take-le _ _ (slice_relend_prefix_read c.before))
 
-read-requires : tie.Need-read-requires
-read-requires c κs = search rules
+read_requires : tie.Need-read-requires
+read_requires c κs = search rules
 
-answered-requires : tie.Need-answered-requires
-answered-requires c κs = search rules
+answered_requires : tie.Need-answered-requires
+answered_requires c κs = search rules
 
 same_length : tie.Need-same-length
 same_length c = search rules
@@ -30,19 +30,19 @@ same_length c = search rules
 returns : tie.Need-returns
 returns c = search rules
 
-returns-2 : tie.Need-returns-2
-returns-2 c = search rules
+returns_2 : tie.Need-returns-2
+returns_2 c = search rules
 
-pub read-into-spec : {M : Type 1} → statement M
-read-into-spec =
+pub read_into_spec : {M : Type 1} → statement M
+read_into_spec =
     tie.close
     (tie.spec
-    element-copy-out-end
-    known-of-requires
-    slice-relend-prefix-read
-    slice-aggregate-read
-    read-requires
-    answered-requires
+    element_copy_out_end
+    known_of_requires
+    slice_relend_prefix_read
+    slice_aggregate_read
+    read_requires
+    answered_requires
     same_length
     returns
-    returns-2)
+    returns_2)

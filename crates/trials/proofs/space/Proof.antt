@@ -9,5 +9,5 @@ use Rattle.trials.proofs.space.Tie as tie
 returns : tie.Need-returns
 returns c = sym (length-replicate {A = ℕ} 131072 0)
 
-pub space-spec : {M : Type 1} → statement M
-space-spec = tie.close (tie.spec returns)
+pub space_spec : {M : Type 1} → statement M
+space_spec = tie.close (tie.spec returns)

@@ -18,12 +18,12 @@ use Rattle.base.proofs.Kit.{entered, cited, says, Stays, stay_none, walk_of, Goe
 use lib.Dec.{T as Holds}
 use denote.Enum.Laws as EL
 use denote.Struct.Laws as LL
-use Rattle.walker.specs.Steps.{foundAt, part_at, next_at}
+use Rattle.walker.specs.Steps.{found_at, part_at, next_at}
 use Rattle.tagset.specs.Sets.{knowing}
 use Rattle.walker.specs.declared.Walker.{Walker}
 use Rattle.walker.specs.declared.Passed.{Passed}
 use Rattle.walker.specs.declared.Found.{Found}
-use Rattle.base.proofs.Walk.{calls-told, calls-said, local, frees1, beside, kept, meets}
+use Rattle.base.proofs.Walk.{calls_told, calls_said, local, frees1, beside, kept, meets}
 use Rattle.walker.proofs.Held.{held}
 use Rattle.walker.specs.contracts.Walker as T
 use Rattle.walker.proofs.Walker.TheLaws as T'
@@ -91,7 +91,7 @@ module _ {M : Type 1} {𝓤 : Ura M} (𝓛 : Logic 𝓤) (mem : Memory → SProp
   v = slice_val s.ref_ptr (length s.now)
 
   abbrev found : Found
-  found = foundAt (knowing d.low d.high) (now s) d.at
+  found = found_at (knowing d.low d.high) (now s) d.at
 
   abbrev Post : Val → SProp 𝓤
   Post = (walk_of 𝓛 next.ended stayed (next.clauses 𝓛 mem run)).post (((κ, tt), (q, tt), tt, (d, tt), (mach ∷ [], tt)), tt)
@@ -125,11 +125,11 @@ module _ {M : Type 1} {𝓤 : Ura M} (𝓛 : Logic 𝓤) (mem : Memory → SProp
   abbrev passed : Vals value.signature (κ, tt)
   passed = (v ∷ [], (vint w64 d.at ∷ [], tt))
 
-  abbrev to-found : Bound 𝓛 item.signature
-  to-found = ((κ, tt), (q, tt), tt, vd, known)
+  abbrev to_found : Bound 𝓛 item.signature
+  to_found = ((κ, tt), (q, tt), tt, vd, known)
 
-  abbrev to-place : Bound 𝓛 value.signature
-  to-place = ((κ, tt), (q, tt), tt, (s, (d.at, tt)), passed)
+  abbrev to_place : Bound 𝓛 value.signature
+  to_place = ((κ, tt), (q, tt), tt, (s, (d.at, tt)), passed)
 
   -- what packet owns gives what a callee asks, and is kept
   goes : (Rs : List RattleType) → Makess 𝓛 Rs (Ises Rs) → (a : Denots Rs) (vss : Valss Rs) → Are Rs (Ises Rs) a vss
@@ -142,12 +142,12 @@ module _ {M : Type 1} {𝓤 : Ura M} (𝓛 : Logic 𝓤) (mem : Memory → SProp
   words : Makes 𝓛 u64 (Is u64)
   words = uint_Makes 𝓛 w64
 
-  goes-found : d.at < 2 ^ 64 → d.low < 2 ^ 64 → d.high < 2 ^ 64
-      → ent 𝓤 (⋆ 𝓛 (Tok ∷ ‵ OwnS ∷ [])) (sep 𝓤 ((FoundAt 𝓛 mem run).pre (to-found, tt)) (sem 𝓛 OwnS))
-  goes-found ga gl gh = goes (usize ∷ u64 ∷ u64 ∷ []) (words, (words, (words, tt))) _ _ ((refl, ga), ((refl, gl), ((refl, gh), tt)))
+  goes_found : d.at < 2 ^ 64 → d.low < 2 ^ 64 → d.high < 2 ^ 64
+      → ent 𝓤 (⋆ 𝓛 (Tok ∷ ‵ OwnS ∷ [])) (sep 𝓤 ((FoundAt 𝓛 mem run).pre (to_found, tt)) (sem 𝓛 OwnS))
+  goes_found ga gl gh = goes (usize ∷ u64 ∷ u64 ∷ []) (words, (words, (words, tt))) _ _ ((refl, ga), ((refl, gl), ((refl, gh), tt)))
 
-  goes-place : d.at < 2 ^ 64 → ent 𝓤 (⋆ 𝓛 (Tok ∷ ‵ OwnS ∷ [])) (sep 𝓤 ((ValueAt 𝓛 mem run).pre (to-place, tt)) (sem 𝓛 OwnS))
-  goes-place ga = goes (usize ∷ []) (words, tt) _ _ ((refl, ga), tt)
+  goes_place : d.at < 2 ^ 64 → ent 𝓤 (⋆ 𝓛 (Tok ∷ ‵ OwnS ∷ [])) (sep 𝓤 ((ValueAt 𝓛 mem run).pre (to_place, tt)) (sem 𝓛 OwnS))
+  goes_place ga = goes (usize ∷ []) (words, tt) _ _ ((refl, ga), tt)
 
   -- ---- the result
   abbrev moved : ℕ → Walker
@@ -197,23 +197,23 @@ module _ {M : Type 1} {𝓤 : Ura M} (𝓛 : Logic 𝓤) (mem : Memory → SProp
         move ! (24 ∷ 0 ∷ 2 ∷ []) $
         -- [the token; what packet owns; what w owns; …; true; _9; …; _8; …; _7; …; _6; …; _5; …; _4; …; _3; …; _2; …; _1; …; _0; …]
         -- `found_at`
-        use2 𝓛 (raw ((FoundAt 𝓛 mem run).pre (to-found, tt)) ⊛ ‵ OwnS)
-        (goes-found wt.1.1.0.fits wt.1.1.1.0.fits wt.1.1.1.1.0.fits) $ split ! $
-        calls-said ! fm item.ended (item.clauses 𝓛 mem run) known-found to-found tt Tok (id⊢ 𝓤 _) (λ r. r ≡ found) (λ r ws. id⊢ 𝓤 _)
+        use2 𝓛 (raw ((FoundAt 𝓛 mem run).pre (to_found, tt)) ⊛ ‵ OwnS)
+        (goes_found wt.1.1.0.fits wt.1.1.1.0.fits wt.1.1.1.1.0.fits) $ split ! $
+        calls_said ! fm item.ended (item.clauses 𝓛 mem run) known-found to_found tt Tok (id⊢ 𝓤 _) (λ r. r ≡ found) (λ r ws. id⊢ 𝓤 _)
         (and_then ! (local ! 19 refl) (and_then ! (local ! 17 refl) (and_then ! (local ! 15 refl) (and_then ! (local ! 13 refl) (no_more !))))) (λ u r er isr.
         land ! (from ! (stop !)) (init ! 11 refl ((EL.lawful S.the_type S'.the_laws 𝓛 tt).typed r _ isr).0) $
         rewrite ! 11 (λ (z : Val). ‵ (fat full_share S'.mir l₆ 0 z)) (ap only (EL.tells S.the_type S'.the_laws r _ isr)) refl $
         -- `value_at`
-        use2 𝓛 (raw ((ValueAt 𝓛 mem run).pre (to-place, tt)) ⊛ ‵ OwnS) (goes-place wt.1.1.0.fits) $ split ! $
-        calls-told ! fm value.ended (value.clauses 𝓛 mem run) known-value to-place tt Tok (id⊢ 𝓤 _) (λ x ws. now x ≡ part_at (now s) d.at)
+        use2 𝓛 (raw ((ValueAt 𝓛 mem run).pre (to_place, tt)) ⊛ ‵ OwnS) (goes_place wt.1.1.0.fits) $ split ! $
+        calls_told ! fm value.ended (value.clauses 𝓛 mem run) known-value to_place tt Tok (id⊢ 𝓤 _) (λ x ws. now x ≡ part_at (now s) d.at)
         (λ x ws. id⊢ 𝓤 _) (and_then ! (local ! 19 refl) (and_then ! (local ! 17 refl) (no_more !))) (λ u' x ws ex isx. move ! (2 ∷ []) $ drop ! $
         land ! (from ! (stop !)) (init ! 10 refl ((shr_slice_Lawful 𝓛 erased κ u8).typed x _ isx).0) $
         rewrite ! 10 (λ (z : Val). ‵ (fat full_share slice l₇ 0 z)) (ap only (shr_slice_Tells (named 0) κ u8 x _ isx)) refl $
         rewrite ! 0 (λ (us : List Val). ‵ ((ShrSlice (named 0) κ u8).own_val x us)) (shr_slice_Tells (named 0) κ u8 x _ isx) refl $ move ! (1 ∷ 2 ∷ []) $
         -- [the token; what packet owns; what value owns; what w owns; …; true; _9; …; _8; …; _7; …; _6; …; _5; …; _4; …; _3; …; _2; …; _1; …; _0; …]
         -- `next_at`
-        use2 𝓛 (raw ((NextAt 𝓛 mem run).pre (to-place, tt)) ⊛ ‵ OwnS) (goes-place wt.1.1.0.fits) $ split ! $
-        calls-said ! fm after.ended (after.clauses 𝓛 mem run) known_next to-place tt Tok (id⊢ 𝓤 _) (λ m. m ≡ next_at (now s) d.at) (λ m ws. id⊢ 𝓤 _)
+        use2 𝓛 (raw ((NextAt 𝓛 mem run).pre (to_place, tt)) ⊛ ‵ OwnS) (goes_place wt.1.1.0.fits) $ split ! $
+        calls_said ! fm after.ended (after.clauses 𝓛 mem run) known_next to_place tt Tok (id⊢ 𝓤 _) (λ m. m ≡ next_at (now s) d.at) (λ m ws. id⊢ 𝓤 _)
         (and_then ! (local ! 20 refl) (and_then ! (local ! 18 refl) (no_more !))) (λ u'' m em ism.
         land ! (from ! (stop !)) (init ! 8 refl ((uint_Lawful 𝓛 w64).typed m _ ism).0) $
         rewrite ! 8 (λ (z : Val). ‵ (fat full_share word l₈ 0 z)) (ap only ism.0) refl $
@@ -241,8 +241,8 @@ module _ {M : Type 1} {𝓤 : Ura M} (𝓛 : Logic 𝓤) (mem : Memory → SProp
     (known_next : Triple 𝓤 (𝓣.C #walker·next-at) (NextAt 𝓛 mem run)) where
   open 𝓛 use {H}
 
-  next-meets : Meets 𝓛 next.signature (WpFn 𝓤 H 𝓣.C 𝓣.Λ code.function) (next.spec 𝓛 mem run)
-  next-meets =
+  next_meets : Meets 𝓛 next.signature (WpFn 𝓤 H 𝓣.C 𝓣.Λ code.function) (next.spec 𝓛 mem run)
+  next_meets =
       let D : Lfts 1 → Declared = λ κs. T.the_type (named_lft 1 0 tt κs) in
       let L : (κs : Lfts 1) → LL.Laws (T.the_type (named_lft 1 0 tt κs)) = λ κs. T'.the_laws (named_lft 1 0 tt κs) in
       meets 𝓛 𝓣 code.function next.ended stayed (next.clauses 𝓛 mem run) (Goes-none 𝓛 1 B yes (λ κs x f. refl), tt)
@@ -250,12 +250,12 @@ module _ {M : Type 1} {𝓤 : Ura M} (𝓛 : Logic 𝓤) (mem : Memory → SProp
       (λ κs qs bounds a g are. via 𝓤 _ (fst∗ 𝓤 _ (emp 𝓤)) (walk 𝓛 mem run κs.0 qs.0 a.0 𝓣.C 𝓣.Λ (fm_of 𝓤 H 𝓛.laws 𝓣)
       known-found known-value known_next are.0 ((LL.lawful (D κs) (L κs) 𝓛).typed a.0 _ are.0).0))
 
-pub next-spec : {M : Type 1} → stated.statement M
+pub next_spec : {M : Type 1} → stated.statement M
 unfolding code.routine tables_of
-next-spec 𝓤 𝓛 𝓜 𝓡 =
+next_spec 𝓤 𝓛 𝓜 𝓡 =
     entered 𝓤 𝓛.H (triple_of 𝓛 next.signature (next.spec 𝓛 𝓜.mem 𝓡.run))
     (tables 𝓤 𝓛.H 𝓜 𝓡 code.env).C (tables 𝓤 𝓛.H 𝓜 𝓡 code.env).Λ #walker·next code.function (code.unfolded 𝓤 𝓛.H 𝓜 𝓡)
-    (next-meets 𝓛 𝓜.mem 𝓡.run (tables_of 𝓤 𝓛.H 𝓜 (tables 𝓤 𝓛.H 𝓜 𝓡 code.env))
+    (next_meets 𝓛 𝓜.mem 𝓡.run (tables_of 𝓤 𝓛.H 𝓜 (tables 𝓤 𝓛.H 𝓜 𝓡 code.env))
     (cited 𝓤 𝓛.H (FoundAt 𝓛 𝓜.mem 𝓡.run) 𝓜 𝓡 code.env #walker·found-at item-def.routine code.calls-walker::found-at (item-thm.met 𝓤 𝓛 𝓜 𝓡))
     (cited 𝓤 𝓛.H (ValueAt 𝓛 𝓜.mem 𝓡.run) 𝓜 𝓡 code.env #walker·value-at value-def.routine code.calls-walker::value-at (value-thm.met 𝓤 𝓛 𝓜 𝓡))
     (cited 𝓤 𝓛.H (NextAt 𝓛 𝓜.mem 𝓡.run) 𝓜 𝓡 code.env #walker·next-at after-def.routine code.calls-walker::next-at (after-thm.met 𝓤 𝓛 𝓜 𝓡)))

@@ -2,7 +2,7 @@
 -- Assumes nothing.
 use mathlib.Core.Path.{sym, ap}
 use borrow.Author.Rules.{rules}
-use Rattle.catalogue.specs.Shapes.{isMarked}
+use Rattle.catalogue.specs.Shapes.{is_marked}
 use Rattle.catalogue.specs.declared.Shape.TheVariants.{Number}
 use Rattle.walker.proofs.number_shape.Statement.{statement}
 use Rattle.walker.proofs.number_shape.Tie as tie
@@ -10,21 +10,21 @@ use Rattle.walker.proofs.number_shape.Tie as tie
 enum_told : tie.Need-enum-told
 enum_told c = search rules
 
-enum-told-2 : tie.Need-enum-told-2
-enum-told-2 c = search rules
+enum_told_2 : tie.Need-enum-told-2
+enum_told_2 c = search rules
 
-enum-told-3 : tie.Need-enum-told-3
-enum-told-3 c = search rules
+enum_told_3 : tie.Need-enum-told-3
+enum_told_3 c = search rules
 
 returns : tie.Need-returns
-returns c = ap (λ s. Number c.before.before.args.width c.before.before.args.width (isMarked s)) (sym c.enum_told.given.1)
+returns c = ap (λ s. Number c.before.before.args.width c.before.before.args.width (is_marked s)) (sym c.enum_told.given.1)
 
-returns-2 : tie.Need-returns-2
-returns-2 c = ap (λ s. Number c.before.before.args.width c.before.before.args.width (isMarked s)) (sym c.enum-told2.given.1)
+returns_2 : tie.Need-returns-2
+returns_2 c = ap (λ s. Number c.before.before.args.width c.before.before.args.width (is_marked s)) (sym c.enum-told2.given.1)
 
-returns-3 : tie.Need-returns-3
-returns-3 c = ap (λ s. Number c.before.before.args.width c.before.before.args.width (isMarked s)) (sym c.enum-told3.given.1)
+returns_3 : tie.Need-returns-3
+returns_3 c = ap (λ s. Number c.before.before.args.width c.before.before.args.width (is_marked s)) (sym c.enum-told3.given.1)
 
-pub number-shape-spec : {M : Type 1} → statement M
-number-shape-spec =
-    tie.close (tie.spec enum_told enum-told-2 enum-told-3 returns returns-2 returns-3)
+pub number_shape_spec : {M : Type 1} → statement M
+number_shape_spec =
+    tie.close (tie.spec enum_told enum_told_2 enum_told_3 returns returns_2 returns_3)

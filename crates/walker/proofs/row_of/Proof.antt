@@ -1,16 +1,16 @@
 -- `walker::row_of` meets its contract.
 -- Assumes nothing.
 use borrow.Author.Rules.{rules}
-use Rattle.walker.specs.Steps.{rowSeen}
+use Rattle.walker.specs.Steps.{row_seen}
 use Rattle.walker.proofs.row_of.Statement.{statement}
 use Rattle.walker.proofs.row_of.Tie as tie
 
-content-of-requires : tie.Need-content-of-requires
-content-of-requires c κs = search rules
+content_of_requires : tie.Need-content-of-requires
+content_of_requires c κs = search rules
 
 returns : tie.Need-returns
-unfolding rowSeen
+unfolding row_seen
 returns c = rw c.content-of.ensures
 
-pub row-of-spec : {M : Type 1} → statement M
-row-of-spec = tie.close (tie.spec content-of-requires returns)
+pub row_of_spec : {M : Type 1} → statement M
+row_of_spec = tie.close (tie.spec content_of_requires returns)

@@ -16,13 +16,13 @@ use Rattle.base.proofs.Kit.{Goes-none, Goes-none_slice, ends_at, yes}
 use denote.Enum.Laws as EL
 use denote.Struct.Laws as LL
 use Rattle.packet.specs.Verdict.{checked}
-use Rattle.walker.specs.Steps.{beginBy, beginSaid, startPlace}
+use Rattle.walker.specs.Steps.{begin_by, begin_said, start_place}
 use Rattle.tagset.specs.Sets.{knowing}
 use Rattle.walker.specs.declared.Walker.{Walker}
 use Rattle.walker.specs.declared.Started.{Started}
 use Rattle.walker.specs.declared.Begun.{Begun}
 use Rattle.walker.specs.declared.Begin.{Begin}
-use Rattle.base.proofs.Walk.{calls-said, local, frees1, beside, kept, meets}
+use Rattle.base.proofs.Walk.{calls_said, local, frees1, beside, kept, meets}
 use Rattle.walker.proofs.Held.{held}
 use Rattle.walker.specs.contracts.Walker as T
 use Rattle.walker.proofs.Walker.TheLaws as T'
@@ -76,8 +76,8 @@ module _ {M : Type 1} {𝓤 : Ura M} (𝓛 : Logic 𝓤) (mem : Memory → SProp
   twice = (shr_slice_copy 𝓛 (named 0) κ u8).twice s (v ∷ [])
 
   -- ---- the call
-  abbrev to-opened : Bound 𝓛 opened.signature
-  to-opened = ((κ, tt), (q, tt), tt, (s, (low, (high, tt))), at)
+  abbrev to_opened : Bound 𝓛 opened.signature
+  to_opened = ((κ, tt), (q, tt), tt, (s, (low, (high, tt))), at)
 
   -- what packet owns, with the two words
   passes : low < 2 ^ 64 → high < 2 ^ 64 → ent 𝓤 (sem 𝓛 OwnS) (sem 𝓛 (owns (ShrSlice (named 0) κ u8 ∷ u64 ∷ u64 ∷ []) (s, (low, (high, tt))) at))
@@ -86,11 +86,11 @@ module _ {M : Type 1} {𝓤 : Ura M} (𝓛 : Logic 𝓤) (mem : Memory → SProp
       beside 𝓛 (ShrSlice (named 0) κ u8) s (v ∷ []) (u64 ∷ u64 ∷ []) (word, (word, tt)) (low, (high, tt)) _ ((refl, gl), ((refl, gh), tt))
       (sem 𝓛 OwnS) (id⊢ 𝓤 (sem 𝓛 OwnS))
 
-  goes : low < 2 ^ 64 → high < 2 ^ 64 → ent 𝓤 (⋆ 𝓛 (Tok ∷ ‵ OwnS ∷ [])) (sep 𝓤 ((Opened 𝓛 mem run).pre (to-opened, tt)) (sem 𝓛 OwnS))
+  goes : low < 2 ^ 64 → high < 2 ^ 64 → ent 𝓤 (⋆ 𝓛 (Tok ∷ ‵ OwnS ∷ [])) (sep 𝓤 ((Opened 𝓛 mem run).pre (to_opened, tt)) (sem 𝓛 OwnS))
   goes gl gh = kept 𝓛 (mean 𝓛 Tok) (sem 𝓛 OwnS) _ (emp 𝓤) twice (passes gl gh) (id⊢ 𝓤 (emp 𝓤))
 
   abbrev Said : Begun → Type 0
-  Said b = (beginSaid b.answer ≡ beginBy (checked (knowing low high) (now s))) × (b.at ≡ startPlace (knowing low high) (now s))
+  Said b = (begin_said b.answer ≡ begin_by (checked (knowing low high) (now s))) × (b.at ≡ start_place (knowing low high) (now s))
 
   -- ---- the result
   abbrev D : Declared
@@ -135,8 +135,8 @@ module _ {M : Type 1} {𝓤 : Ura M} (𝓛 : Logic 𝓤) (mem : Memory → SProp
         pass1 ! (init ! 4 refl (tt, record { fits = gh })) $ pass0 ! $
         move ! (13 ∷ []) $ fsplit ! $ move ! (14 ∷ 0 ∷ []) $
         -- [the token; what packet owns; …; _5; …; _4; …; _3; …; _2; …; _1; …; _0; …]
-        use2 𝓛 (raw ((Opened 𝓛 mem run).pre (to-opened, tt)) ⊛ ‵ OwnS) (goes gl gh) $ split ! $
-        calls-said ! fm opened.ended (opened.clauses 𝓛 mem run) known-opened to-opened tt Tok (id⊢ 𝓤 _) Said (λ r ws. id⊢ 𝓤 _)
+        use2 𝓛 (raw ((Opened 𝓛 mem run).pre (to_opened, tt)) ⊛ ‵ OwnS) (goes gl gh) $ split ! $
+        calls_said ! fm opened.ended (opened.clauses 𝓛 mem run) known-opened to_opened tt Tok (id⊢ 𝓤 _) Said (λ r ws. id⊢ 𝓤 _)
         (and_then ! (local ! 11 refl) (and_then ! (local ! 9 refl) (and_then ! (local ! 7 refl) (no_more !)))) (λ u b e is.
         land ! (from ! (stop !)) (init ! 5 refl ((LL.lawful G.the_type G'.the_laws 𝓛).typed b _ is).0) $
         rewrite ! 5 (λ (z : Val). ‵ (fat full_share G'.mir l₄ 0 z)) (ap only (LL.tells G.the_type G'.the_laws b _ is)) refl $
@@ -147,19 +147,19 @@ module _ {M : Type 1} {𝓤 : Ura M} (𝓛 : Logic 𝓤) (mem : Memory → SProp
           tt,
           (
             ((shr_slice_Lawful 𝓛 (named 0) κ u8).typed s (v ∷ []) p).0.1,
-            (record { fits = at-fits b is }, (record { fits = gl }, (record { fits = gh }, tt))),
+            (record { fits = at_fits b is }, (record { fits = gl }, (record { fits = gh }, tt))),
           ),
         )) $
         assigns ! (agg ! (and_then ! (load ! (from ! (fld ! refl (stop !))) (look_in ! 5 (sub ! 0 refl (whole !))))
         (and_then ! (local ! 3 refl) (no_more !)))) (from ! (stop !))
         (init ! 13 refl ((LL.lawful (K.the_type α) (K'.the_laws α) 𝓛).typed (made b) _
-        (whole_is b (LL.owed G.the_type G'.the_laws b _ is).0 (at-fits b is))).0) $
+        (whole_is b (LL.owed G.the_type G'.the_laws b _ is).0 (at_fits b is))).0) $
         returns ! (look ! 13 refl) $ frees1 ! 13 refl refl $ frees1 ! 11 refl refl $ frees1 ! 9 refl refl $ frees1 ! 7 refl refl $ frees1 ! 5 refl refl $
         frees1 ! 3 refl refl $ free0 ! $
-        keep ! (0 ∷ 1 ∷ []) $ by ! (exits b (LL.owed G.the_type G'.the_laws b _ is).0 (at-fits b is) gl gh e))))))))
+        keep ! (0 ∷ 1 ∷ []) $ by ! (exits b (LL.owed G.the_type G'.the_laws b _ is).0 (at_fits b is) gl gh e))))))))
       where
-        at-fits : (b : Begun) {u : List Val} → Is G.the_row b u → b.at < 2 ^ 64
-        at-fits b is = (LL.owed G.the_type G'.the_laws b _ is).1.0.1
+        at_fits : (b : Begun) {u : List Val} → Is G.the_row b u → b.at < 2 ^ 64
+        at_fits b is = (LL.owed G.the_type G'.the_laws b _ is).1.0.1
 
         -- the whole record's relation, from its fields'
         whole_is : (b : Begun) → Is S.the_row b.answer (avals b.answer) → b.at < 2 ^ 64 → Is (K.the_row α) (made b) (result b ∷ [])
@@ -176,8 +176,8 @@ module _ {M : Type 1} {𝓤 : Ura M} (𝓛 : Logic 𝓤) (mem : Memory → SProp
     → Fun 𝓤) (𝓣 : Tables 𝓤 𝓛.H) (known-opened : Triple 𝓤 (𝓣.C #walker·opened) (Opened 𝓛 mem run)) where
   open 𝓛 use {H}
 
-  start-meets : Meets 𝓛 start.signature (WpFn 𝓤 H 𝓣.C 𝓣.Λ code.function) (start.spec 𝓛 mem run)
-  start-meets =
+  start_meets : Meets 𝓛 start.signature (WpFn 𝓤 H 𝓣.C 𝓣.Λ code.function) (start.spec 𝓛 mem run)
+  start_meets =
       let word-goes = Goes-none 𝓛 1 (λ _. u64) yes (λ κs x f. refl) in
       meets 𝓛 𝓣 code.function start.ended stayed (start.clauses 𝓛 mem run)
       (Goes-none_slice 𝓛 1 (0 ∷ []) tt (plain (λ _. u8)) yes, (word-goes, (word-goes, tt)))
@@ -190,5 +190,5 @@ unfolding code.routine tables_of
 start_spec 𝓤 𝓛 𝓜 𝓡 =
     entered 𝓤 𝓛.H (triple_of 𝓛 start.signature (start.spec 𝓛 𝓜.mem 𝓡.run))
     (tables 𝓤 𝓛.H 𝓜 𝓡 code.env).C (tables 𝓤 𝓛.H 𝓜 𝓡 code.env).Λ #walker·start code.function (code.unfolded 𝓤 𝓛.H 𝓜 𝓡)
-    (start-meets 𝓛 𝓜.mem 𝓡.run (tables_of 𝓤 𝓛.H 𝓜 (tables 𝓤 𝓛.H 𝓜 𝓡 code.env))
+    (start_meets 𝓛 𝓜.mem 𝓡.run (tables_of 𝓤 𝓛.H 𝓜 (tables 𝓤 𝓛.H 𝓜 𝓡 code.env))
     (cited 𝓤 𝓛.H (Opened 𝓛 𝓜.mem 𝓡.run) 𝓜 𝓡 code.env #walker·opened opened-def.routine code.calls-walker::opened (opened-thm.met 𝓤 𝓛 𝓜 𝓡)))

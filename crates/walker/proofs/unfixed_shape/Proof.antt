@@ -19,8 +19,8 @@ tested a =
 returns : tie.Need-returns
 returns c = rw (tested c.before.before.before ∙ c.if1.true)
 
-returns-2 : tie.Need-returns-2
-returns-2 c = rw (tested c.before.before.before ∙ c.if1.false)
+returns_2 : tie.Need-returns-2
+returns_2 c = rw (tested c.before.before.before ∙ c.if1.false)
 
-pub unfixed-shape-spec : {M : Type 1} → statement M
-unfixed-shape-spec = tie.close (tie.spec returns returns-2)
+pub unfixed_shape_spec : {M : Type 1} → statement M
+unfixed_shape_spec = tie.close (tie.spec returns returns_2)

@@ -20,12 +20,12 @@ use Rattle.base.proofs.Kit.{Goes-none_slice, ends_at, yes}
 use denote.Struct.Laws as LL
 use Rattle.tagset.specs.declared.TagSet.{TagSet}
 use Rattle.walker.specs.Passes.{Starts, Passes}
-use Rattle.walker.specs.Steps.{part_at, next_at, startPlace, placeNumber}
+use Rattle.walker.specs.Steps.{part_at, next_at, start_place, place_number}
 use Rattle.tagset.specs.Sets.{knowing}
 use Rattle.walker.specs.declared.Walker.{Walker}
 use Rattle.walker.specs.declared.Started.{Started}
 use Rattle.walker.specs.declared.Passed.{Passed}
-use Rattle.base.proofs.Walk.{calls-told, calls-said, local, frees1, beside, kept, meets, holds, fails, one_more, counted}
+use Rattle.base.proofs.Walk.{calls_told, calls_said, local, frees1, beside, kept, meets, holds, fails, one-more, counted}
 use Rattle.walker.proofs.Held.{held}
 use Rattle.walker.specs.contracts.Walker as W
 use Rattle.walker.proofs.Walker.TheLaws as W'
@@ -48,12 +48,12 @@ use Rattle.walker.proofs.value_number.Code as code
 use Rattle.walker.proofs.value_number.Code.Mir as mir
 
 -- where a walk starts, and where a step leads
-place-first : (K : TagSet) (p : List ℕ) → startPlace K p ≡ placeNumber K p zero
-unfolding placeNumber
-place-first K p = refl
+place_first : (K : TagSet) (p : List ℕ) → start_place K p ≡ place_number K p zero
+unfolding place_number
+place_first K p = refl
 
-place_after : (K : TagSet) (p : List ℕ) (i : ℕ) → next_at p (placeNumber K p i) ≡ placeNumber K p (suc i)
-unfolding placeNumber
+place_after : (K : TagSet) (p : List ℕ) (i : ℕ) → next_at p (place_number K p i) ≡ place_number K p (suc i)
+unfolding place_number
 place_after K p i = refl
 
 abbrev stayed : Stays (number.ended).signature.params (number.ended).kept
@@ -131,7 +131,7 @@ module _ {M : Type 1} {𝓤 : Ura M} (𝓛 : Logic 𝓤) (mem : Memory → SProp
 
   -- item i's place, and the walker there
   abbrev pl : ℕ → ℕ
-  pl i = placeNumber Kn (now s) i
+  pl i = place_number Kn (now s) i
 
   abbrev moved : ℕ → Walker
   moved m = record { packet = s; at = m; low = low; high = high }
@@ -156,18 +156,18 @@ module _ {M : Type 1} {𝓤 : Ura M} (𝓛 : Logic 𝓤) (mem : Memory → SProp
   abbrev to_start : Bound 𝓛 start.signature
   to_start = ((κ, tt), (q, tt), tt, (s, (low, (high, tt))), (v ∷ [], (vint w64 low ∷ [], (vint w64 high ∷ [], tt))))
 
-  goes-start : low < 2 ^ 64 → high < 2 ^ 64 → ent 𝓤 (⋆ 𝓛 (Tok ∷ ‵ OwnS ∷ [])) (sep 𝓤 ((Start 𝓛 mem run).pre (to_start, tt)) (sem 𝓛 OwnS))
-  goes-start gl gh =
+  goes_start : low < 2 ^ 64 → high < 2 ^ 64 → ent 𝓤 (⋆ 𝓛 (Tok ∷ ‵ OwnS ∷ [])) (sep 𝓤 ((Start 𝓛 mem run).pre (to_start, tt)) (sem 𝓛 OwnS))
+  goes_start gl gh =
       kept 𝓛 (mean 𝓛 Tok) (sem 𝓛 OwnS) _ (emp 𝓤) twice
       (beside 𝓛 (ShrSlice (named 0) κ u8) s (v ∷ []) (u64 ∷ u64 ∷ []) (words, (words, tt)) (low, (high, tt)) _ ((refl, gl), ((refl, gh), tt))
       (sem 𝓛 OwnS) (id⊢ 𝓤 (sem 𝓛 OwnS))) (id⊢ 𝓤 (emp 𝓤))
 
-  abbrev to-next : ℕ → Bound 𝓛 next.signature
-  to-next m = ((κ, tt), (q, tt), tt, (moved m, tt), (wv (moved m) ∷ [], tt))
+  abbrev to_next : ℕ → Bound 𝓛 next.signature
+  to_next m = ((κ, tt), (q, tt), tt, (moved m, tt), (wv (moved m) ∷ [], tt))
 
-  goes-next : (m : ℕ) → m < 2 ^ 64 → low < 2 ^ 64 → high < 2 ^ 64
-      → ent 𝓤 (⋆ 𝓛 (Tok ∷ ‵ OwnS ∷ [])) (sep 𝓤 ((Next 𝓛 mem run).pre (to-next m, tt)) (sem 𝓛 OwnS))
-  goes-next m gm gl gh =
+  goes_next : (m : ℕ) → m < 2 ^ 64 → low < 2 ^ 64 → high < 2 ^ 64
+      → ent 𝓤 (⋆ 𝓛 (Tok ∷ ‵ OwnS ∷ [])) (sep 𝓤 ((Next 𝓛 mem run).pre (to_next m, tt)) (sem 𝓛 OwnS))
+  goes_next m gm gl gh =
       kept 𝓛 (mean 𝓛 Tok) (sem 𝓛 OwnS) _ (emp 𝓤) twice
       (beside 𝓛 (W.the_row α) (moved m) (wv (moved m) ∷ []) [] tt tt tt tt (sem 𝓛 OwnS) (held 𝓛 κ s low high m gl gh gm)) (id⊢ 𝓤 (emp 𝓤))
 
@@ -205,8 +205,8 @@ module _ {M : Type 1} {𝓤 : Ura M} (𝓛 : Logic 𝓤) (mem : Memory → SProp
     Left = after_block 𝓤 H (after_seq 𝓤 H (Wp 𝓤 H C Λ En mir.t-5 (at_return 𝓤 H En Post)) (at_return 𝓤 H En Post))
 
     -- the walker's relation
-    is-moved : (m : ℕ) → m < 2 ^ 64 → Is (W.the_row α) (moved m) (wv (moved m) ∷ [])
-    is-moved m gm = LL.owes D L (moved m) (p, ((refl, gm), ((refl, gl), ((refl, gh), tt))))
+    is_moved : (m : ℕ) → m < 2 ^ 64 → Is (W.the_row α) (moved m) (wv (moved m) ∷ [])
+    is_moved m gm = LL.owes D L (moved m) (p, ((refl, gm), ((refl, gl), ((refl, gh), tt))))
 
     -- a turn: the next item is taken, and the moved walker kept
     more : (i : ℕ) (u : Unit {0}) (X : SProp 𝓤) → i < k → pl i < 2 ^ 64 → (Unit {0} → pl (suc i) < 2 ^ 64 → ent 𝓤 (⋆ 𝓛 (At (suc i))) X)
@@ -218,10 +218,10 @@ module _ {M : Type 1} {𝓤 : Ura M} (𝓛 : Logic 𝓤) (mem : Memory → SProp
         rewrite ! 8 (λ (t : Bool). ‵ (fat full_share ty_bool l₈ 0 (vbool t))) (holds (ltb i k) (lt→ltb i k small)) refl $
         stays ! (local ! 8 refl) $
         assigns ! (of_opd ! (local ! 14 refl)) (from ! (stop !)) (init ! 4 refl ((LL.lawful (W.the_type αᵉ) (W'.the_laws αᵉ) 𝓛).typed (moved (pl i)) _
-        (is-moved (pl i) gm)).0) $
-        move ! (26 ∷ 27 ∷ []) $ use2 𝓛 (raw ((Next 𝓛 mem run).pre (to-next (pl i), tt)) ⊛ ‵ OwnS) (goes-next (pl i) gm gl gh) $ split ! $
+        (is_moved (pl i) gm)).0) $
+        move ! (26 ∷ 27 ∷ []) $ use2 𝓛 (raw ((Next 𝓛 mem run).pre (to_next (pl i), tt)) ⊛ ‵ OwnS) (goes_next (pl i) gm gl gh) $ split ! $
         -- [what is asked; what packet owns; _12; …; _11; …; _10; …; _9; …; _8; …; _7; …; _6; …; _5; …; _4; …; _3; …; _2; …; _1; …; _0; …]
-        calls-said ! (fm_of 𝓤 H 𝓛.laws 𝓣) next.ended (next.clauses 𝓛 mem run) known_next (to-next (pl i)) tt Tok (id⊢ 𝓤 _) (Passes (moved (pl i)))
+        calls_said ! (fm_of 𝓤 H 𝓛.laws 𝓣) next.ended (next.clauses 𝓛 mem run) known_next (to_next (pl i)) tt Tok (id⊢ 𝓤 _) (Passes (moved (pl i)))
         (λ r ws. id⊢ 𝓤 _) (and_then ! (local ! 6 refl) (no_more !)) (λ z r e is.
         land ! (from ! (stop !)) (init ! 8 refl ((LL.lawful (K.the_type αᵉ) (K'.the_laws αᵉ) 𝓛).typed r _ is).0) $
         rewrite ! 8 (λ (z : Val). ‵ (fat full_share kt l₉ 0 z)) (ap only (LL.tells KD KL r _ is)) refl $
@@ -229,7 +229,7 @@ module _ {M : Type 1} {𝓤 : Ura M} (𝓛 : Logic 𝓤) (mem : Memory → SProp
         (store ! 16 refl ((LL.lawful (W.the_type αᵉ) (W'.the_laws αᵉ) 𝓛).typed r.rest _ (LL.owed KD KL r _ is).1.1.0).0) $
         assigns_last ! (bin ! (local ! 14 refl) (lit ! tt) (record { fits = next_fits })) (from ! (stop !))
         (store ! 14 refl (tt, record { fits = next_fits })) $
-        forget ! 6 refl $ forget ! 8 refl $ forget ! 10 refl $ rewrite ! 14 (λ (j : ℕ). ‵ (fat full_share word l₆ 0 (vint w64 j))) (one_more i) refl $
+        forget ! 6 refl $ forget ! 8 refl $ forget ! 10 refl $ rewrite ! 14 (λ (j : ℕ). ‵ (fat full_share word l₆ 0 (vint w64 j))) (one-more i) refl $
         rewrite ! 16 (λ (w : Walker). ‵ (fat full_share wt l₅ 0 (wv w))) (same r e) refl $
         keep ! (2 ∷ 3 ∷ 4 ∷ 5 ∷ 6 ∷ 7 ∷ 8 ∷ 9 ∷ 10 ∷ 11 ∷ 12 ∷ 13 ∷ 14 ∷ 15 ∷ 16 ∷ 17 ∷ 18 ∷ 19 ∷ 20 ∷ 21 ∷ 22 ∷ 23 ∷ 24 ∷ 25 ∷ 26 ∷ 27 ∷ 0 ∷ 1 ∷ []) $
         by ! (c tt (subst (λ (w : Walker). w.at < 2 ^ 64) (same r e) (LL.owed D L r.rest _ (LL.owed KD KL r _ is).1.1.0).1.0.1)))
@@ -249,9 +249,9 @@ module _ {M : Type 1} {𝓤 : Ura M} (𝓛 : Logic 𝓤) (mem : Memory → SProp
         rewrite ! 8 (λ (t : Bool). ‵ (fat full_share ty_bool l₈ 0 (vbool t))) (fails (ltb i k) (λ a. omega (arith, ltb→lt i k a, all))) refl $
         leaves_loop ! (local ! 8 refl) $ exec ! C Λ En mir.t-5 (at_ret En Post) $
         assigns ! (of_opd ! (local ! 14 refl)) (from ! (stop !)) (init ! 0 refl ((LL.lawful (W.the_type αᵉ) (W'.the_laws αᵉ) 𝓛).typed (moved (pl i)) _
-        (is-moved (pl i) gm)).0) $
-        move ! (26 ∷ 27 ∷ []) $ use2 𝓛 (raw ((Next 𝓛 mem run).pre (to-next (pl i), tt)) ⊛ ‵ OwnS) (goes-next (pl i) gm gl gh) $ split ! $
-        calls-told ! (fm_of 𝓤 H 𝓛.laws 𝓣) next.ended (next.clauses 𝓛 mem run) known_next (to-next (pl i)) tt Tok (id⊢ 𝓤 _)
+        (is_moved (pl i) gm)).0) $
+        move ! (26 ∷ 27 ∷ []) $ use2 𝓛 (raw ((Next 𝓛 mem run).pre (to_next (pl i), tt)) ⊛ ‵ OwnS) (goes_next (pl i) gm gl gh) $ split ! $
+        calls_told ! (fm_of 𝓤 H 𝓛.laws 𝓣) next.ended (next.clauses 𝓛 mem run) known_next (to_next (pl i)) tt Tok (id⊢ 𝓤 _)
         (λ r ws. Passes (moved (pl i)) r)
         (λ r ws. id⊢ 𝓤 _) (and_then ! (local ! 2 refl) (no_more !)) (λ u r ws e is. move ! (2 ∷ []) $ drop ! $
         -- [what the step owns; the token; what packet owns; _12; …; _11; …; …]
@@ -287,9 +287,9 @@ module _ {M : Type 1} {𝓤 : Ura M} (𝓛 : Logic 𝓤) (mem : Memory → SProp
 
     begins : Triple 𝓤 (𝓣.C #walker·start) (Start 𝓛 mem run) → Sq 𝓛 Entry (runs C Λ En mir.t-1 (at_ret En Post))
     begins Known-start =
-        move ! (27 ∷ []) $ fsplit ! $ move ! (28 ∷ 0 ∷ []) $ use2 𝓛 (raw ((Start 𝓛 mem run).pre (to_start, tt)) ⊛ ‵ OwnS) (goes-start gl gh) $ split ! $
+        move ! (27 ∷ []) $ fsplit ! $ move ! (28 ∷ 0 ∷ []) $ use2 𝓛 (raw ((Start 𝓛 mem run).pre (to_start, tt)) ⊛ ‵ OwnS) (goes_start gl gh) $ split ! $
         -- [what is asked; what packet owns; …; _12; …; _11; …; _10; …; _9; …; _8; …; _7; …; _6; …; _5; …; _4; …; _3; …; _2; …; _1; …; _0; …]
-        calls-said ! (fm_of 𝓤 H 𝓛.laws 𝓣) start.ended (start.clauses 𝓛 mem run) Known-start to_start tt Tok (id⊢ 𝓤 _) (Starts s low high)
+        calls_said ! (fm_of 𝓤 H 𝓛.laws 𝓣) start.ended (start.clauses 𝓛 mem run) Known-start to_start tt Tok (id⊢ 𝓤 _) (Starts s low high)
         (λ r ws. id⊢ 𝓤 _) (and_then ! (local ! 25 refl) (and_then ! (local ! 23 refl) (and_then ! (local ! 21 refl) (no_more !)))) (λ u r e is.
         land ! (from ! (stop !)) (init ! 13 refl ((LL.lawful (Z.the_type αᵉ) (Z'.the_laws αᵉ) 𝓛).typed r _ is).0) $
         rewrite ! 13 (λ (z : Val). ‵ (fat full_share st l₇ 0 z)) (ap only (LL.tells ZD ZL r _ is)) refl $
@@ -301,7 +301,7 @@ module _ {M : Type 1} {𝓤 : Ura M} (𝓛 : Logic 𝓤) (mem : Memory → SProp
         by ! (loops (subst (λ (w : Walker). w.at < 2 ^ 64) (same r e) (LL.owed D L r.walker _ (LL.owed ZD ZL r _ is).1.0).1.0.1)))
       where
         same : (r : Started) → Starts s low high r → r.walker ≡ moved (pl 0)
-        same r e = e.walker ∙ ap moved (place-first Kn (now s))
+        same r e = e.walker ∙ ap moved (place_first Kn (now s))
 
   walk : (𝓣 : Tables 𝓤 H) → Triple 𝓤 (𝓣.C #walker·start) (Start 𝓛 mem run) → Triple 𝓤 (𝓣.C #walker·next) (Next 𝓛 mem run)
       → Is (ShrSlice (named 0) κ u8) s (v ∷ []) → low < 2 ^ 64 → high < 2 ^ 64 → k < 2 ^ 64
@@ -320,8 +320,8 @@ module _ {M : Type 1} {𝓤 : Ura M} (𝓛 : Logic 𝓤) (mem : Memory → SProp
     (Known-start : Triple 𝓤 (𝓣.C #walker·start) (Start 𝓛 mem run)) (known_next : Triple 𝓤 (𝓣.C #walker·next) (Next 𝓛 mem run)) where
   open 𝓛 use {H}
 
-  number-meets : Meets 𝓛 number.signature (WpFn 𝓤 H 𝓣.C 𝓣.Λ code.function) (number.spec 𝓛 mem run)
-  number-meets =
+  number_meets : Meets 𝓛 number.signature (WpFn 𝓤 H 𝓣.C 𝓣.Λ code.function) (number.spec 𝓛 mem run)
+  number_meets =
       let word-goes = Goes-none 𝓛 1 (λ _. u64) yes (λ κs x f. refl) in
       let vals = uint_vals w64 in
       let tells = uint_Tells w64 in
@@ -331,11 +331,11 @@ module _ {M : Type 1} {𝓤 : Ura M} (𝓛 : Logic 𝓤) (mem : Memory → SProp
       (λ κs qs bounds a g are. via 𝓤 _ (fst∗ 𝓤 _ (emp 𝓤)) (walk 𝓛 mem run κs.0 qs.0 a.0 a.1.0 a.1.1.0 a.1.1.1.0 𝓣
       Known-start known_next are.0 are.1.0.1 are.1.1.0.1 are.1.1.1.0.1))
 
-pub value-number-spec : {M : Type 1} → stated.statement M
+pub value_number_spec : {M : Type 1} → stated.statement M
 unfolding code.routine tables_of
-value-number-spec 𝓤 𝓛 𝓜 𝓡 =
+value_number_spec 𝓤 𝓛 𝓜 𝓡 =
     entered 𝓤 𝓛.H (triple_of 𝓛 number.signature (number.spec 𝓛 𝓜.mem 𝓡.run))
     (tables 𝓤 𝓛.H 𝓜 𝓡 code.env).C (tables 𝓤 𝓛.H 𝓜 𝓡 code.env).Λ #walker·value-number code.function (code.unfolded 𝓤 𝓛.H 𝓜 𝓡)
-    (number-meets 𝓛 𝓜.mem 𝓡.run (tables_of 𝓤 𝓛.H 𝓜 (tables 𝓤 𝓛.H 𝓜 𝓡 code.env))
+    (number_meets 𝓛 𝓜.mem 𝓡.run (tables_of 𝓤 𝓛.H 𝓜 (tables 𝓤 𝓛.H 𝓜 𝓡 code.env))
     (cited 𝓤 𝓛.H (Start 𝓛 𝓜.mem 𝓡.run) 𝓜 𝓡 code.env #walker·start start-def.routine code.calls-walker::start (start-thm.met 𝓤 𝓛 𝓜 𝓡))
     (cited 𝓤 𝓛.H (Next 𝓛 𝓜.mem 𝓡.run) 𝓜 𝓡 code.env #walker·next next-def.routine code.calls-walker::next (next-thm.met 𝓤 𝓛 𝓜 𝓡)))

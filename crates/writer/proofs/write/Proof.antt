@@ -5,8 +5,8 @@ use Rattle.writer.proofs.Answers.{plainly}
 use Rattle.writer.proofs.write.Statement.{statement}
 use Rattle.writer.proofs.write.Tie as tie
 
-write-handed-requires : tie.Need-write-handed-requires
-write-handed-requires c κs = search rules
+write_handed_requires : tie.Need-write-handed-requires
+write_handed_requires c κs = search rules
 
 same_length : tie.Need-same-length
 same_length c = search rules
@@ -15,4 +15,4 @@ returns : tie.Need-returns
 returns c = plainly c.before.before.write-handed.ensures
 
 pub write_spec : {M : Type 1} → statement M
-write_spec = tie.close (tie.spec write-handed-requires same_length returns)
+write_spec = tie.close (tie.spec write_handed_requires same_length returns)

@@ -5,43 +5,43 @@ use borrow.Author.Rules.{rules}
 use Rattle.trials.proofs.grounds.corners.Statement.{statement}
 use Rattle.trials.proofs.grounds.corners.Tie as tie
 
-abbrev invariant-loop : tie.invariant-loop
-invariant-loop packet known k₀ k = k ≤ 6
+abbrev invariant_loop : tie.invariant-loop
+invariant_loop packet known k₀ k = k ≤ 6
 
-abbrev decreases-loop : tie.decreases-loop
-decreases-loop packet known k₀ k = 6 - k
+abbrev decreases_loop : tie.decreases-loop
+decreases_loop packet known k₀ k = 6 - k
 
-loop-holds : tie.Need-loop-init invariant-loop decreases-loop
-loop-holds c = search rules
+loop_holds : tie.Need-loop-init invariant_loop decreases_loop
+loop_holds c = search rules
 
-corner-requires : tie.Need-corner-requires invariant-loop decreases-loop
-corner-requires c κs = search rules
+corner_requires : tie.Need-corner-requires invariant_loop decreases_loop
+corner_requires c κs = search rules
 
-add-k : tie.Need-overflow-add-k invariant-loop decreases-loop
-add-k c = search rules
+add_k : tie.Need-overflow-add-k invariant_loop decreases_loop
+add_k c = search rules
 
-loop-less : tie.Need-loop-smaller invariant-loop decreases-loop
-loop-less c = search rules
+loop_less : tie.Need-loop-smaller invariant_loop decreases_loop
+loop_less c = search rules
 
-loop-again : tie.Need-loop-preserved invariant-loop decreases-loop
-loop-again c = search rules
+loop_again : tie.Need-loop-preserved invariant_loop decreases_loop
+loop_again c = search rules
 
-corner-requires-2 : tie.Need-corner-requires-2 invariant-loop decreases-loop
-corner-requires-2 c κs = search rules
+corner_requires_2 : tie.Need-corner-requires-2 invariant_loop decreases_loop
+corner_requires_2 c κs = search rules
 
-returns : tie.Need-returns invariant-loop decreases-loop
+returns : tie.Need-returns invariant_loop decreases_loop
 returns c = search rules
 
-pub corners-spec : {M : Type 1} → statement M
-corners-spec =
+pub corners_spec : {M : Type 1} → statement M
+corners_spec =
     tie.close
     (tie.spec
-    invariant-loop
-    decreases-loop
-    loop-holds
-    corner-requires
-    add-k
-    loop-less
-    loop-again
-    corner-requires-2
+    invariant_loop
+    decreases_loop
+    loop_holds
+    corner_requires
+    add_k
+    loop_less
+    loop_again
+    corner_requires_2
     returns)

@@ -5,43 +5,43 @@ use borrow.Author.Rules.{rules}
 use Rattle.trials.proofs.grounds.walked.Statement.{statement}
 use Rattle.trials.proofs.grounds.walked.Tie as tie
 
-abbrev invariant-loop : tie.invariant-loop
-invariant-loop packet low high steps k₀ k = k ≤ steps
+abbrev invariant_loop : tie.invariant-loop
+invariant_loop packet low high steps k₀ k = k ≤ steps
 
-abbrev decreases-loop : tie.decreases-loop
-decreases-loop packet low high steps k₀ k = steps - k
+abbrev decreases_loop : tie.decreases-loop
+decreases_loop packet low high steps k₀ k = steps - k
 
-loop-holds : tie.Need-loop-init invariant-loop decreases-loop
-loop-holds c = search rules
+loop_holds : tie.Need-loop-init invariant_loop decreases_loop
+loop_holds c = search rules
 
-value-number-requires : tie.Need-value-number-requires invariant-loop decreases-loop
-value-number-requires c κs = search rules
+value_number_requires : tie.Need-value-number-requires invariant_loop decreases_loop
+value_number_requires c κs = search rules
 
-hexadecimal-requires : tie.Need-hexadecimal-requires invariant-loop decreases-loop
-hexadecimal-requires c κs = search rules
+hexadecimal_requires : tie.Need-hexadecimal-requires invariant_loop decreases_loop
+hexadecimal_requires c κs = search rules
 
-add-k : tie.Need-overflow-add-k invariant-loop decreases-loop
-add-k c = search rules
+add_k : tie.Need-overflow-add-k invariant_loop decreases_loop
+add_k c = search rules
 
-loop-less : tie.Need-loop-smaller invariant-loop decreases-loop
-loop-less c = search rules
+loop_less : tie.Need-loop-smaller invariant_loop decreases_loop
+loop_less c = search rules
 
-loop-again : tie.Need-loop-preserved invariant-loop decreases-loop
-loop-again c = search rules
+loop_again : tie.Need-loop-preserved invariant_loop decreases_loop
+loop_again c = search rules
 
-returns : tie.Need-returns invariant-loop decreases-loop
+returns : tie.Need-returns invariant_loop decreases_loop
 returns c = search rules
 
-pub walked-spec : {M : Type 1} → statement M
-walked-spec =
+pub walked_spec : {M : Type 1} → statement M
+walked_spec =
     tie.close
     (tie.spec
-    invariant-loop
-    decreases-loop
-    loop-holds
-    value-number-requires
-    hexadecimal-requires
-    add-k
-    loop-less
-    loop-again
+    invariant_loop
+    decreases_loop
+    loop_holds
+    value_number_requires
+    hexadecimal_requires
+    add_k
+    loop_less
+    loop_again
     returns)

@@ -5,47 +5,47 @@ use borrow.Author.Rules.{rules}
 use Rattle.trials.proofs.readings.rows_of.Statement.{statement}
 use Rattle.trials.proofs.readings.rows_of.Tie as tie
 
-abbrev invariant-loop : tie.invariant-loop
-invariant-loop table count i₀ i = i ≤ 512
+abbrev invariant_loop : tie.invariant-loop
+invariant_loop table count i₀ i = i ≤ 512
 
-abbrev decreases-loop : tie.decreases-loop
-decreases-loop table count i₀ i = 512 - i
+abbrev decreases_loop : tie.decreases-loop
+decreases_loop table count i₀ i = 512 - i
 
-loop-holds : tie.Need-loop-init invariant-loop decreases-loop
-loop-holds c = search rules
+loop_holds : tie.Need-loop-init invariant_loop decreases_loop
+loop_holds c = search rules
 
-mul-row-word : tie.Need-overflow-mul-row-word invariant-loop decreases-loop
-mul-row-word c = search rules
+mul_row_word : tie.Need-overflow-mul-row-word invariant_loop decreases_loop
+mul_row_word c = search rules
 
-element-copy-out-row-word : tie.Need-element-copy-out-row-word invariant-loop decreases-loop
-element-copy-out-row-word c = search rules
+element_copy_out_row_word : tie.Need-element-copy-out-row-word invariant_loop decreases_loop
+element_copy_out_row_word c = search rules
 
-row-word-requires : tie.Need-row-word-requires invariant-loop decreases-loop
-row-word-requires c κs = search rules
+row_word_requires : tie.Need-row-word-requires invariant_loop decreases_loop
+row_word_requires c κs = search rules
 
-add-i : tie.Need-overflow-add-i invariant-loop decreases-loop
-add-i c = search rules
+add_i : tie.Need-overflow-add-i invariant_loop decreases_loop
+add_i c = search rules
 
-loop-less : tie.Need-loop-smaller invariant-loop decreases-loop
-loop-less c = search rules
+loop_less : tie.Need-loop-smaller invariant_loop decreases_loop
+loop_less c = search rules
 
-loop-again : tie.Need-loop-preserved invariant-loop decreases-loop
-loop-again c = search rules
+loop_again : tie.Need-loop-preserved invariant_loop decreases_loop
+loop_again c = search rules
 
-returns : tie.Need-returns invariant-loop decreases-loop
+returns : tie.Need-returns invariant_loop decreases_loop
 returns c = search rules
 
-pub rows-of-spec : {M : Type 1} → statement M
-rows-of-spec =
+pub rows_of_spec : {M : Type 1} → statement M
+rows_of_spec =
     tie.close
     (tie.spec
-    invariant-loop
-    decreases-loop
-    loop-holds
-    mul-row-word
-    element-copy-out-row-word
-    row-word-requires
-    add-i
-    loop-less
-    loop-again
+    invariant_loop
+    decreases_loop
+    loop_holds
+    mul_row_word
+    element_copy_out_row_word
+    row_word_requires
+    add_i
+    loop_less
+    loop_again
     returns)

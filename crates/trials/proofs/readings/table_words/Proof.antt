@@ -6,67 +6,67 @@ use lib.ListN.{length}
 use Rattle.trials.proofs.readings.table_words.Statement.{statement}
 use Rattle.trials.proofs.readings.table_words.Tie as tie
 
-abbrev invariant-loop : tie.invariant-loop
-invariant-loop table places i₀ i = i ≤ length places
+abbrev invariant_loop : tie.invariant-loop
+invariant_loop table places i₀ i = i ≤ length places
 
-abbrev decreases-loop : tie.decreases-loop
-decreases-loop table places i₀ i = length places - i
+abbrev decreases_loop : tie.decreases-loop
+decreases_loop table places i₀ i = length places - i
 
-slice-aggregate-say : tie.Need-slice-aggregate-say invariant-loop decreases-loop
-slice-aggregate-say c = search rules
+slice_aggregate_say : tie.Need-slice-aggregate-say invariant_loop decreases_loop
+slice_aggregate_say c = search rules
 
-say-requires : tie.Need-say-requires invariant-loop decreases-loop
-say-requires c κs = search rules
+say_requires : tie.Need-say-requires invariant_loop decreases_loop
+say_requires c κs = search rules
 
-loop-holds : tie.Need-loop-init invariant-loop decreases-loop
-loop-holds c = search rules
+loop_holds : tie.Need-loop-init invariant_loop decreases_loop
+loop_holds c = search rules
 
-mul_at : tie.Need-overflow-mul-at invariant-loop decreases-loop
+mul_at : tie.Need-overflow-mul-at invariant_loop decreases_loop
 mul_at c = search rules
 
-shared-slice-read-at : tie.Need-shared-slice-read-at invariant-loop decreases-loop
-shared-slice-read-at c = search rules
+shared_slice_read_at : tie.Need-shared-slice-read-at invariant_loop decreases_loop
+shared_slice_read_at c = search rules
 
-mul-field : tie.Need-overflow-mul-field invariant-loop decreases-loop
-mul-field c = search rules
+mul_field : tie.Need-overflow-mul-field invariant_loop decreases_loop
+mul_field c = search rules
 
-shared-slice-read-field : tie.Need-shared-slice-read-field invariant-loop decreases-loop
-shared-slice-read-field c = search rules
+shared_slice_read_field : tie.Need-shared-slice-read-field invariant_loop decreases_loop
+shared_slice_read_field c = search rules
 
-field-requires : tie.Need-field-requires invariant-loop decreases-loop
-field-requires c κs = search rules
+field_requires : tie.Need-field-requires invariant_loop decreases_loop
+field_requires c κs = search rules
 
-add-i : tie.Need-overflow-add-i invariant-loop decreases-loop
-add-i c = search rules
+add_i : tie.Need-overflow-add-i invariant_loop decreases_loop
+add_i c = search rules
 
-loop-less : tie.Need-loop-smaller invariant-loop decreases-loop
-loop-less c = search rules
+loop_less : tie.Need-loop-smaller invariant_loop decreases_loop
+loop_less c = search rules
 
-loop-again : tie.Need-loop-preserved invariant-loop decreases-loop
-loop-again c = search rules
+loop_again : tie.Need-loop-preserved invariant_loop decreases_loop
+loop_again c = search rules
 
-newline-requires : tie.Need-newline-requires invariant-loop decreases-loop
-newline-requires c κs = search rules
+newline_requires : tie.Need-newline-requires invariant_loop decreases_loop
+newline_requires c κs = search rules
 
-returns : tie.Need-returns invariant-loop decreases-loop
+returns : tie.Need-returns invariant_loop decreases_loop
 returns c = search rules
 
-pub table-words-spec : {M : Type 1} → statement M
-table-words-spec =
+pub table_words_spec : {M : Type 1} → statement M
+table_words_spec =
     tie.close
     (tie.spec
-    invariant-loop
-    decreases-loop
-    slice-aggregate-say
-    say-requires
-    loop-holds
+    invariant_loop
+    decreases_loop
+    slice_aggregate_say
+    say_requires
+    loop_holds
     mul_at
-    shared-slice-read-at
-    mul-field
-    shared-slice-read-field
-    field-requires
-    add-i
-    loop-less
-    loop-again
-    newline-requires
+    shared_slice_read_at
+    mul_field
+    shared_slice_read_field
+    field_requires
+    add_i
+    loop_less
+    loop_again
+    newline_requires
     returns)
