@@ -4,5 +4,3 @@ pub mod Parts
 pub mod Digits
 pub mod Putting
 pub mod Whole
-pub mod Kit
-pub mod Walk

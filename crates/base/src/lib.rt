@@ -1,1 +1,2 @@
 // What the proofs of every crate share. No code: the laws are in specs/.
+#![tactic(auto)]

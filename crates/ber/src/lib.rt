@@ -1,5 +1,7 @@
 // Tags and lengths as they stand before each value (SMPTE ST 336 as document 01 has it): read at a place, sized, and put at a place.
 // Every slice and every place gets an answer; a tag has one form, a length is put in its shortest, and what was put reads back.
+#![tactic(auto)]
+
 ghost use Rattle.std.specs.Prelude.{◌≡◌, ◌+◌, ◌<◌, ◌≤◌, [], ◌∷◌, length, take, drop};
 ghost use Rattle.number.specs.Stored.{value_of, bytes_of};
 ghost use Rattle.ber.specs.Read.{read_tag, tag_second, tag_third, read_length};

@@ -1,5 +1,7 @@
 // The catalogue: which items document 01 knows, how each is stored, and which lengths and codes it allows.
 // Every answer is that of document 01's groups, in constant time, for every tag of 64 bits.
+#![tactic(auto)]
+
 ghost use Rattle.std.specs.Prelude.{◌≡◌, ◌||◌, eqb, ltb};
 ghost use Rattle.catalogue.specs.Rows.{all_tags};
 ghost use Rattle.catalogue.specs.Extended.{is_extended, in_reach};

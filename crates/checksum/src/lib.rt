@@ -1,5 +1,7 @@
 // The checksum: the sixteen-bit running sum of the bytes, which drops its carries.
 // It is document 01's sum modulo 65,536, of any bytes.
+#![tactic(auto)]
+
 ghost use Rattle.std.specs.Prelude.{◌≡◌, ◌+◌, ◌*◌, ◌%◌, ◌<◌};
 ghost use Rattle.checksum.specs.Sum.{checksum_of, weighed};
 

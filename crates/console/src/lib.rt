@@ -1,5 +1,7 @@
 // What the programs share: lines written to a file descriptor, and a word of hexadecimal digits read.
 // The functions that write have no contract beyond safety: none can say what is written.
+#![tactic(auto)]
+
 ghost use Rattle.std.specs.Prelude.{◌≡◌};
 ghost use Rattle.console.specs.Word.{digit_of, word_of};
 

@@ -1,6 +1,8 @@
 // Reads one packet from standard input and sends it on to standard output. Without arguments it knows items 1, 2 and 65; two
 // words in hexadecimal, the low one first, are another knowing set. A refusal writes nothing to standard output, since that would
 // travel on as a packet, and one line to standard error.
+#![tactic(auto)]
+
 use console::{Word, refused, say, word_of};
 use libc::{STDERR_FILENO, STDIN_FILENO, STDOUT_FILENO};
 use relay::Forwarding;

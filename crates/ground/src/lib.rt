@@ -1,5 +1,7 @@
 // Heights and corners of an accepted packet, in house units. A height keeps its kind, and no function turns one kind into the
 // other; a mark is off the Earth and never a number.
+#![tactic(auto)]
+
 ghost use Rattle.std.specs.Prelude.{◌≡◌, ◌^◌, ◌<◌, true};
 ghost use Rattle.refusal.specs.Answer.{given, map};
 ghost use Rattle.catalogue.specs.Extended.{is_extended};

@@ -1,5 +1,7 @@
 // The fixed table: the items that document 01 knows, as rows of tag, width, sign, low and high in house units.
 // Every answer is the one table's, in constant time, for every tag of 64 bits.
+#![tactic(auto)]
+
 ghost use Rattle.std.specs.Prelude.{◌≡◌, true, ◌+ℤ◌};
 ghost use Rattle.std.specs.Int.{w64};
 ghost use Rattle.std.proofs.Common.{SFits};

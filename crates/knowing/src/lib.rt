@@ -1,5 +1,7 @@
 // Knowing sets: which catalogue tags a receiver knows.
 // A set is good exactly where document 01 says so.
+#![tactic(auto)]
+
 ghost use Rattle.std.specs.Prelude.{◌≡◌};
 ghost use Rattle.knowing.specs.Good.{good};
 

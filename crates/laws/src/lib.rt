@@ -1,1 +1,2 @@
 // What holds of packets, whoever reads and sends them. No code: the theorems are in proofs/.
+#![tactic(auto)]

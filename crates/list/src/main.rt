@@ -1,4 +1,6 @@
 // Lists the packet on standard input for a person: place, tag, kind and value of each item, or the refusal.
+#![tactic(auto)]
+
 use libc::{STDERR_FILENO, STDIN_FILENO, STDOUT_FILENO};
 use listing::{LARGEST, Listing};
 

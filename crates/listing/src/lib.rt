@@ -1,5 +1,7 @@
 // The listing of a packet, as a person reads it: a line for each row, or one line for a refusal, in a lent output.
 // The contract gives every byte; an output that is too short is left as it was.
+#![tactic(auto)]
+
 ghost use Rattle.std.specs.Prelude.{◌≡◌, ◌++◌, leb, length};
 ghost use Rattle.base.specs.Putting.{Room, Wrote};
 ghost use Rattle.refusal.specs.Numbers.{number};

@@ -1,5 +1,7 @@
 // Numbers stored highest byte first: the value of the bytes in a lent slice, and a slice filled with a value's bytes.
 // What is put is read back, and every slice gets an answer.
+#![tactic(auto)]
+
 ghost use Rattle.std.specs.Prelude.{◌≡◌, ◌+◌, ◌*◌, ◌%◌, ◌^◌, ◌<◌, ◌≤◌, length, get_or, take, drop};
 ghost use Rattle.base.specs.Putting.{Wrote};
 ghost use Rattle.number.specs.Stored.{value_of, bytes_of};

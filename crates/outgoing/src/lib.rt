@@ -1,5 +1,7 @@
 // What a table of rows comes to before it is written: the writer's refusals in their order, or the size of the packet.
 // Nothing is written here, and no sum wraps for any table.
+#![tactic(auto)]
+
 ghost use Rattle.std.specs.Prelude.{◌≡◌, true, ℕ, ◌^◌, ◌<◌, ◌≤◌, length};
 ghost use Rattle.refusal.specs.Numbers.{number};
 ghost use Rattle.refusal.specs.Answer.{refused as refusedBy, map};

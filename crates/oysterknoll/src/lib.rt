@@ -1,5 +1,7 @@
 // The library that C and Rust link: document 01's functions under C names, each with a struct as its answer.
 // An answer says all there is to say; no lent memory carries any part of a refusal, and a refusal leaves all of it.
+#![tactic(auto)]
+
 ghost use Rattle.std.specs.Prelude.{◌≡◌, length};
 ghost use Rattle.scale.specs.Conversions.{to_house, to_code};
 ghost use Rattle.refusal.specs.Answer.{map};

@@ -1,5 +1,7 @@
 // A packet checked: structure, then what the receiver knows of its items, in one walk.
 // A packet is accepted exactly when document 01 allows it, and is refused by the first refusal in its order.
+#![tactic(auto)]
+
 ghost use Rattle.std.specs.Prelude.{◌≡◌, true, false, ◌+◌, ◌-◌, ◌%◌, ◌^◌, ◌<◌, ◌≤◌, length, take, drop, get_or};
 ghost use Rattle.refusal.specs.Numbers.{number};
 ghost use Rattle.refusal.specs.Answer.{refused as refusedBy, refusal as refusalOf};

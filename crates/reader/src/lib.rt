@@ -1,5 +1,7 @@
 // The reader: from a packet to a table of rows in lent words.
 // An accepted packet fills the table with its rows and zeros up to word 512; a refusal leaves every word.
+#![tactic(auto)]
+
 ghost use Rattle.std.specs.Prelude.{◌≡◌, ◌+◌, ◌-◌, ◌*◌, ◌/◌, ◌^◌, ◌<◌, ◌≤◌, length, replicate};
 ghost use Rattle.std.proofs.lemmas.List.Edits.{sets};
 ghost use Rattle.refusal.specs.Numbers.{number};

@@ -1,5 +1,7 @@
 // The writer over a lent list of records: a thin cover over the word-table writer, with the same answers.
 // What it answers and writes is the word writer's on the records' images.
+#![tactic(auto)]
+
 ghost use Rattle.std.specs.Prelude.{◌≡◌, ◌<◌, ◌≤◌, length, get_or, replicate};
 ghost use Rattle.writer.specs.Writes.{Writes};
 ghost use Rattle.rows.specs.Meaning.{mark_code};

@@ -1,5 +1,7 @@
 // Why an answer is a refusal: document 01's reasons and those that change requests add, with the place and the tag that go with each.
 // A reason's number is document 01's, and number, place and tag tell any two refusals apart.
+#![tactic(auto)]
+
 ghost use Rattle.std.specs.Prelude.{◌≡◌};
 ghost use Rattle.refusal.specs.Numbers.{number};
 

@@ -1,5 +1,7 @@
 // The relay: a packet sent on, with all that it does not know.
 // Whoever reads what was sent on reads what the original says; a refusal leaves the output.
+#![tactic(auto)]
+
 ghost use Rattle.std.specs.Prelude.{◌+◌, ◌≤◌, length};
 ghost use Rattle.base.specs.Putting.{Room, Wrote};
 ghost use Rattle.packet.specs.code.Headers.{item_by};

@@ -1,5 +1,7 @@
 // Rows: what a receiver makes of an item, and a row taken out of a table by itself.
 // A row is bad exactly where document 01 says so, and what is taken out is what the row says, for every table and buffer.
+#![tactic(auto)]
+
 ghost use Rattle.std.specs.Prelude.{◌≡◌, ◌+◌, ◌*◌, length, get_or, eqb, cond};
 ghost use Rattle.refusal.specs.Numbers.{number};
 ghost use Rattle.refusal.specs.Answer.{refused as refusedBy};

@@ -1,6 +1,8 @@
 // Codes and house units: what a stored code stands for, and the code of a value, for every item that has a scale.
 // Values are the nearest, codes too, but for an extended height (W-202) the one at or below; 19, 20 and 21 come exactly where document 01
 // and W-202 have them.
+#![tactic(auto)]
+
 ghost use Rattle.std.specs.Prelude.{◌≡◌, true, false, cond, ◌&&◌, ◌-◌, ◌*◌, ◌/◌, ◌^◌, ◌<◌, ◌≤◌, leb, nat_abs, ◌-ℤ◌, ◌+ℤ◌, pos};
 ghost use Rattle.std.specs.Int.Signed.{mag, lt_z};
 ghost use Rattle.catalogue.specs.Shapes.{is_marked};

@@ -1,5 +1,7 @@
 // Text put into a lent output at a place: numbers in decimal, bytes in hexadecimal, and bytes as they are.
 // Each puts all of its text where there is room, else nothing, and answers how many bytes it put.
+#![tactic(auto)]
+
 ghost use Rattle.std.specs.Prelude.{◌≡◌, true, false, ◌∷◌, ◌+◌, ◌<◌, ◌≤◌, pos, nat_abs, length};
 ghost use Rattle.std.specs.Int.Signed.{lt_z};
 ghost use Rattle.base.specs.Putting.{Puts, Room, Wrote};

@@ -1,5 +1,7 @@
 // Sets of tags below 128 as two words, tag t being bit t of the pair: a tag in it, a tag more, one set within another, how many tags.
 // Each test is what the words mean as a set, for every tag of 64 bits.
+#![tactic(auto)]
+
 ghost use Rattle.std.specs.Prelude.{◌≡◌};
 ghost use Rattle.tagset.specs.Sets.{holds, within, with_tag, size, meet, same};
 

@@ -26,6 +26,8 @@
 // y: a row taken out of that table. The two words of the knowing set, the row count, the row's number, the buffer's bytes.
 // z: a row taken out of a table. The same, with the table's words before the bytes.
 // The input has at most 131,072 bytes, a list at most 8,200 entries.
+#![tactic(auto)]
+
 ghost use Rattle.std.specs.Prelude.{◌≡◌, ◌<◌, ◌≤◌, length};
 
 mod conversions;

@@ -1,5 +1,7 @@
 // What the values of an item count, by its tag: the unit that document 01's table has beside the range.
 // The tags of a unit are a set of two words, so that no table is looked through.
+#![tactic(auto)]
+
 ghost use Rattle.std.specs.Prelude.{◌≡◌};
 ghost use Rattle.catalogue.specs.Items.{unit_of};
 ghost use Rattle.units.specs.Units.{unit_number};

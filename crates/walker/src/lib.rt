@@ -1,6 +1,8 @@
 // A walker over the items of a packet: it keeps the packet and its place, and hands back each item with its value as a part of the
 // packet.
 // From the start to "no more" it hands out just the reader's rows, in their order; every step has an answer.
+#![tactic(auto)]
+
 ghost use Rattle.std.specs.Prelude.{◌≡◌, ◌+◌, ◌%◌, ◌^◌, ◌≤◌, length};
 ghost use Rattle.number.specs.Stored.{value_of};
 ghost use Rattle.tagset.specs.Sets.{holds, knowing};

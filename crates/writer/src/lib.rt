@@ -1,5 +1,7 @@
 // The writer: from a table of rows to a packet in a lent output.
 // What is written reads back as the same table; a refusal leaves the whole output, and bytes after the packet stay.
+#![tactic(auto)]
+
 ghost use Rattle.std.specs.Prelude.{◌+◌, ◌<◌, ◌≤◌, ◌++◌, length, take, drop};
 ghost use Rattle.number.specs.Stored.{bytes_of};
 ghost use Rattle.base.specs.Putting.{Room, Wrote};
