@@ -10,7 +10,7 @@ ghost use Rattle.ber.specs.Written.{tag_bytes, length_bytes};
 ghost use Rattle.ber.specs.Seen.{seen};
 
 // What stands at a place: a number and how many bytes it takes, or nothing that may stand there, cut or forbidden.
-#[derive(Drop)]
+#[derive(Clone, Copy)]
 pub enum Field {
     Is { value: u64, size: usize },
     Broken,
@@ -119,7 +119,7 @@ pub fn length_at(s: &[u8], at: usize) -> Field
 }
 
 // The bytes of a tag or a length as one number, and how many they are: none for what has no form.
-#[derive(Drop)]
+#[derive(Clone, Copy)]
 struct Form {
     size: usize,
     code: u64,

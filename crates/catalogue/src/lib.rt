@@ -11,7 +11,7 @@ ghost use Rattle.catalogue.specs.code.Column.{shape_column, mask_column, shape_i
 use tagset::TagSet;
 
 // How the codes of a number are read: as they stand, in two's complement, or in two's complement with the lowest one a mark.
-#[derive(Drop)]
+#[derive(Clone, Copy)]
 pub enum Sign {
     Unsigned,
     Signed,
@@ -20,7 +20,7 @@ pub enum Sign {
 
 // An item. Width is in bytes, 0 where it is not fixed: for text, which has no scale, and for an extended height (W-202), which has one.
 // Low equals high where there is no scale.
-#[derive(Drop)]
+#[derive(Clone, Copy)]
 pub struct Item {
     pub tag: u64,
     pub width: usize,
@@ -29,14 +29,14 @@ pub struct Item {
     pub high: i64,
 }
 
-#[derive(Drop)]
+#[derive(Clone, Copy)]
 pub enum Found {
     Known(Item),
     Absent,
 }
 
 // What a value in house units counts. None for texts and for numbers whose code is all there is; item 2's code counts microseconds.
-#[derive(Drop)]
+#[derive(Clone, Copy)]
 pub enum Unit {
     None,
     Degree,
@@ -49,7 +49,7 @@ pub enum Unit {
 }
 
 // How a value is stored: as text, or as a number of at least and at most so many bytes, whose lowest code is a mark or not.
-#[derive(Drop)]
+#[derive(Clone, Copy)]
 pub enum Shape {
     Text,
     Number {
@@ -62,7 +62,7 @@ pub enum Shape {
 
 // A row of the table: tag, width, whether it is signed, low and high.
 // A signed number from -high to high has a mark; 39 is the one that has none.
-#[derive(Drop)]
+#[derive(Clone, Copy)]
 pub struct Entry(pub u64, pub usize, pub bool, pub i64, pub i64);
 
 // The tags of all rows.

@@ -81,7 +81,7 @@ pub fn digit(byte: u8) -> u64
     16
 }
 
-#[derive(Drop)]
+#[derive(Clone, Copy)]
 pub enum Word {
     Is(u64),
     Not,

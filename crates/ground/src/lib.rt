@@ -19,14 +19,14 @@ use scale::ToHouse;
 use tagset::TagSet;
 
 // In mm over the ellipsoid.
-#[derive(Drop)]
+#[derive(Clone, Copy)]
 pub struct EllipsoidHeight(pub i64);
 
 // In mm over mean sea level.
-#[derive(Drop)]
+#[derive(Clone, Copy)]
 pub struct SeaLevelHeight(pub i64);
 
-#[derive(Drop)]
+#[derive(Clone, Copy)]
 pub enum Height {
     OverEllipsoid(EllipsoidHeight),
     OverSeaLevel(SeaLevelHeight),
@@ -35,13 +35,13 @@ pub enum Height {
 }
 
 // In 10^-7 degree.
-#[derive(Drop)]
+#[derive(Clone, Copy)]
 pub struct Point {
     pub latitude: i64,
     pub longitude: i64,
 }
 
-#[derive(Drop)]
+#[derive(Clone, Copy)]
 pub enum Corner {
     At(Point),
     OffTheEarth,
@@ -50,7 +50,7 @@ pub enum Corner {
 }
 
 // What the rows say of a tag: nothing, a mark, or a value in house units.
-#[derive(Drop)]
+#[derive(Clone, Copy)]
 enum Value {
     Absent,
     Off,

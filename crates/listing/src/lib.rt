@@ -24,12 +24,12 @@ use scale::ToHouse;
 pub const LARGEST: usize = 21781;
 
 // A listing: how many bytes of the output it takes.
-#[derive(Drop)]
+#[derive(Clone, Copy)]
 pub struct Listed {
     pub size: usize,
 }
 
-#[derive(Drop)]
+#[derive(Clone, Copy)]
 pub enum Listing {
     Lines(Listed),
     Refused(Refusal),

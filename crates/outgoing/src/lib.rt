@@ -26,20 +26,20 @@ use rows::RowWords;
 use tagset::TagSet;
 
 // How many bytes the packet has, and how many of them its items.
-#[derive(Drop)]
+#[derive(Clone, Copy)]
 pub struct Packed {
     pub size: usize,
     pub items: usize,
 }
 
-#[derive(Drop)]
+#[derive(Clone, Copy)]
 pub enum Outgoing {
     Fits(Packed),
     Refused(Refusal),
 }
 
 // What the writer is handed beside its rows: nothing, or the words that are to be theirs.
-#[derive(Drop)]
+#[derive(Clone, Copy)]
 pub enum Handed {
     Nothing,
     Words(TagSet),
@@ -354,7 +354,7 @@ fn plain_size(column: &[u8; 128], known: TagSet, seen: TagSet, room: usize, row:
 }
 
 // What a walk over the rows keeps: whether each was plainly right, the tags seen, how many bytes their items have.
-#[derive(Drop)]
+#[derive(Clone, Copy)]
 struct Glance {
     right: bool,
     seen: TagSet,

@@ -60,7 +60,7 @@ const STORED_EXTENDED: u64 = 4;
 
 // The refusal in front of an answer: document 01's number, place and tag, number 0 where nothing is refused.
 #[repr(C)]
-#[derive(Drop)]
+#[derive(Clone, Copy)]
 pub struct Refusal {
     pub number: u64,
     pub place: usize,
@@ -69,7 +69,7 @@ pub struct Refusal {
 
 // A row: its words, with the place and the length of its value apart.
 #[repr(C)]
-#[derive(Drop)]
+#[derive(Clone, Copy)]
 pub struct Row {
     pub tag: u64,
     pub kind: u64,
@@ -94,7 +94,7 @@ const NO_ROW: Row = Row {
 
 // Which known items are there: tag t is bit t of the pair.
 #[repr(C)]
-#[derive(Drop)]
+#[derive(Clone, Copy)]
 pub struct Present {
     pub low: u64,
     pub high: u64,
@@ -104,7 +104,7 @@ const NO_TAGS: Present = Present { low: 0, high: 0 };
 
 // How many items or rows, which known ones, and which of them are withdrawn.
 #[repr(C)]
-#[derive(Drop)]
+#[derive(Clone, Copy)]
 pub struct CountAnswer {
     pub refusal: Refusal,
     pub count: usize,
@@ -114,14 +114,14 @@ pub struct CountAnswer {
 
 // How many bytes at the front of the output.
 #[repr(C)]
-#[derive(Drop)]
+#[derive(Clone, Copy)]
 pub struct SizeAnswer {
     pub refusal: Refusal,
     pub size: usize,
 }
 
 #[repr(C)]
-#[derive(Drop)]
+#[derive(Clone, Copy)]
 pub struct RowAnswer {
     pub refusal: Refusal,
     pub row: Row,
@@ -129,7 +129,7 @@ pub struct RowAnswer {
 
 // Where the items begin.
 #[repr(C)]
-#[derive(Drop)]
+#[derive(Clone, Copy)]
 pub struct StartAnswer {
     pub refusal: Refusal,
     pub place: usize,
@@ -137,7 +137,7 @@ pub struct StartAnswer {
 
 // An item and the place after it; where there is none, kind 0 and the same place.
 #[repr(C)]
-#[derive(Drop)]
+#[derive(Clone, Copy)]
 pub struct NextAnswer {
     pub row: Row,
     pub next: usize,
@@ -145,14 +145,14 @@ pub struct NextAnswer {
 
 // In house units.
 #[repr(C)]
-#[derive(Drop)]
+#[derive(Clone, Copy)]
 pub struct ValueAnswer {
     pub refusal: Refusal,
     pub value: i64,
 }
 
 #[repr(C)]
-#[derive(Drop)]
+#[derive(Clone, Copy)]
 pub struct CodeAnswer {
     pub refusal: Refusal,
     pub code: u64,
@@ -160,7 +160,7 @@ pub struct CodeAnswer {
 
 // The height is in mm.
 #[repr(C)]
-#[derive(Drop)]
+#[derive(Clone, Copy)]
 pub struct HeightAnswer {
     pub refusal: Refusal,
     pub kind: u64,
@@ -169,7 +169,7 @@ pub struct HeightAnswer {
 
 // In 10^-7 degree.
 #[repr(C)]
-#[derive(Drop)]
+#[derive(Clone, Copy)]
 pub struct CornerAnswer {
     pub refusal: Refusal,
     pub kind: u64,
@@ -179,7 +179,7 @@ pub struct CornerAnswer {
 
 // What the catalogue has; marked is 1 where the lowest code is a mark.
 #[repr(C)]
-#[derive(Drop)]
+#[derive(Clone, Copy)]
 pub struct ItemAnswer {
     pub stored: u64,
     pub width: usize,

@@ -26,7 +26,7 @@ use refusal::{Reason, Refusal};
 use tagset::TagSet;
 
 // What stands before a value: the tag, where the item starts, where its value stands, and how many bytes that has.
-#[derive(Drop)]
+#[derive(Clone, Copy)]
 pub struct Header {
     pub tag: u64,
     pub start: usize,
@@ -34,7 +34,7 @@ pub struct Header {
     pub size: usize,
 }
 
-#[derive(Drop)]
+#[derive(Clone, Copy)]
 pub enum Step {
     Item(Header),
     Refused(Refusal),
@@ -127,14 +127,14 @@ pub fn item_at(packet: &[u8], at: usize) -> Step
 }
 
 // What is wrong with a known item, if anything is.
-#[derive(Drop)]
+#[derive(Clone, Copy)]
 pub enum Fault {
     Clean,
     Wrong(Reason),
 }
 
 // What is looked at in a known item: its shape and tag, the length and the code of its value, whether its tag came before.
-#[derive(Drop)]
+#[derive(Clone, Copy)]
 pub struct Looked {
     pub shape: Shape,
     pub tag: u64,
@@ -195,7 +195,7 @@ fn fault_at(packet: &[u8], column: &[u8; 128], known: TagSet, seen: TagSet, item
 }
 
 // Whether something is right, or the refusal.
-#[derive(Drop)]
+#[derive(Clone, Copy)]
 pub enum Right {
     Yes,
     Refused(Refusal),
@@ -242,7 +242,7 @@ fn judged(packet: &[u8], from: usize, known: TagSet) -> Right
 // An item at a glance: its tag where one byte says it, else 0, which no item has; where its tag is known, whether it is fit; whether it has no
 // bytes; where its value is found; the place past it, which is past the packet where there is no item; by how many bytes its length is longer than in
 // its shortest form.
-#[derive(Drop)]
+#[derive(Clone, Copy)]
 struct Glance {
     tag: usize,
     fit: bool,
@@ -409,7 +409,7 @@ fn note(words: &[u64; 2], present: &mut [u64; 2], tag: usize, fit: bool) -> usiz
 
 // What a walk keeps of the items that it has passed: where it stands, how many they are, where the last one starts, by how many bytes
 // their lengths are longer than in their shortest forms, and how many of them are known.
-#[derive(Drop)]
+#[derive(Clone, Copy)]
 struct Passed {
     here: usize,
     count: usize,
@@ -532,7 +532,7 @@ fn has_key(packet: &[u8]) -> bool
 }
 
 // Where the items begin.
-#[derive(Drop)]
+#[derive(Clone, Copy)]
 enum Frame {
     From(usize),
     Refused(Refusal),
@@ -571,7 +571,7 @@ fn framed(packet: &[u8]) -> Frame
 
 // An accepted packet: where its items begin, how many there are, by how many bytes their forms are longer than the shortest, and as two
 // words each the tags of the known ones and of those of them that are withdrawn.
-#[derive(Drop)]
+#[derive(Clone, Copy)]
 pub struct Accepted {
     pub from: usize,
     pub count: usize,
@@ -580,14 +580,14 @@ pub struct Accepted {
     pub withdrawn: TagSet,
 }
 
-#[derive(Drop)]
+#[derive(Clone, Copy)]
 pub enum Checked {
     Accepted(Accepted),
     Refused(Refusal),
 }
 
 // The first and the last of the items or rows: where each is said to stand, its tag, and the last one's length.
-#[derive(Drop)]
+#[derive(Clone, Copy)]
 pub struct Ends {
     pub start: usize,
     pub first: u64,
@@ -746,7 +746,7 @@ fn is_clean(
 }
 
 // The tags that a walk has noted: of the known items that are fit, and of those that have no bytes.
-#[derive(Drop)]
+#[derive(Clone, Copy)]
 struct Noted {
     present: TagSet,
     withdrawn: TagSet,
@@ -854,7 +854,7 @@ pub fn check(packet: &[u8], known: TagSet) -> Checked
 
 // The answer, and where an accepted packet's values are found: for each tag below 128 the place past its last item, of an extended height the
 // place of its value, 0 where there is none or it is withdrawn; at 0 that of the tags from 128 on.
-#[derive(Drop)]
+#[derive(Clone, Copy)]
 pub struct Located {
     pub answer: Checked,
     pub places: [u16; 128],

@@ -20,7 +20,7 @@ use refusal::{Reason, Refusal};
 use rows::{Filled, RowWords};
 use tagset::TagSet;
 
-#[derive(Drop)]
+#[derive(Clone, Copy)]
 pub enum Reading {
     Rows(Filled),
     Refused(Refusal),

@@ -5,7 +5,7 @@
 ghost use Rattle.std.specs.Prelude.{◌≡◌};
 ghost use Rattle.refusal.specs.Numbers.{number};
 
-#[derive(Drop)]
+#[derive(Clone, Copy)]
 pub enum Reason {
     // of the reader, and of the knowing set
     SetNotGood,
@@ -36,7 +36,7 @@ pub enum Reason {
 }
 
 // The tag is 0 where there is none.
-#[derive(Drop)]
+#[derive(Clone, Copy)]
 pub struct Refusal {
     pub reason: Reason,
     pub place: usize,

@@ -15,7 +15,7 @@ use refusal::{Reason, Refusal};
 use tagset::TagSet;
 use writer::Written;
 
-#[derive(Drop)]
+#[derive(Clone, Copy)]
 pub enum Forwarding {
     Packet(Written),
     Refused(Refusal),

@@ -17,7 +17,7 @@ use refusal::{Reason, Refusal};
 use tagset::TagSet;
 
 // The four words of a row.
-#[derive(Drop)]
+#[derive(Clone, Copy)]
 pub struct RowWords {
     pub tag: u64,
     pub kind: u64,
@@ -26,7 +26,7 @@ pub struct RowWords {
 }
 
 // A filled table: how many rows it has, and as two words each the tags of those that are not carried and of those that are withdrawn.
-#[derive(Drop)]
+#[derive(Clone, Copy)]
 pub struct Filled {
     pub count: usize,
     pub present: TagSet,
@@ -191,14 +191,14 @@ fn is_good_code(tag: u64, width: usize, code: u64) -> bool
 }
 
 // A part of the buffer.
-#[derive(Drop)]
+#[derive(Clone, Copy)]
 pub struct Part {
     pub place: usize,
     pub length: usize,
 }
 
 // What a row holds: a reading's code and length, a mark, where text or carried bytes stand, or that the value no longer holds.
-#[derive(Drop)]
+#[derive(Clone, Copy)]
 pub enum Content {
     Reading { code: u64, length: usize },
     Mark,
@@ -208,13 +208,13 @@ pub enum Content {
 }
 
 // A row taken out singly.
-#[derive(Drop)]
+#[derive(Clone, Copy)]
 pub struct Row {
     pub tag: u64,
     pub content: Content,
 }
 
-#[derive(Drop)]
+#[derive(Clone, Copy)]
 pub enum Taken {
     Is(Row),
     Refused(Refusal),

@@ -18,24 +18,24 @@ use catalogue::{Found, Item, Sign};
 use refusal::{Reason, Refusal};
 
 // In house units.
-#[derive(Drop)]
+#[derive(Clone, Copy)]
 pub struct House {
     pub value: i64,
 }
 
-#[derive(Drop)]
+#[derive(Clone, Copy)]
 pub enum ToHouse {
     Is(House),
     Refused(Refusal),
 }
 
 // As it is stored, unsigned.
-#[derive(Drop)]
+#[derive(Clone, Copy)]
 pub struct Code {
     pub code: u64,
 }
 
-#[derive(Drop)]
+#[derive(Clone, Copy)]
 pub enum ToCode {
     Is(Code),
     Refused(Refusal),
@@ -154,7 +154,7 @@ fn is_number(item: Item, code: u64) -> bool
 
 // An item's scale: values are counted from the origin, and as many house units as reach are as many codes as steps,
 // both divided by what they share, so that the products below fit.
-#[derive(Drop)]
+#[derive(Clone, Copy)]
 struct Scale {
     origin: i64,
     signed: bool,

@@ -6,7 +6,7 @@ ghost use Rattle.std.specs.Prelude.{◌≡◌};
 ghost use Rattle.tagset.specs.Sets.{holds, within, with_tag, size, meet, same};
 
 // The first word is bits 0 to 63.
-#[derive(Drop)]
+#[derive(Clone, Copy)]
 pub struct TagSet {
     pub low: u64,
     pub high: u64,

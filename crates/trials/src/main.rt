@@ -67,7 +67,7 @@ fn word_start(input: &[u8], from: usize) -> usize
 }
 
 // A word's value, and the place after it.
-#[derive(Drop)]
+#[derive(Clone, Copy)]
 struct Token {
     value: u64,
     next: usize,
@@ -90,7 +90,7 @@ fn token_at(input: &[u8], from: usize) -> Token
 }
 
 // How many words or bytes were lent, and the place after them.
-#[derive(Drop)]
+#[derive(Clone, Copy)]
 struct Lent {
     count: usize,
     next: usize,

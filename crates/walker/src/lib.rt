@@ -20,7 +20,7 @@ use rows::{Part, Row};
 use tagset::TagSet;
 
 // An item where it stands: its row, with the place and the length of its value apart, and the place after it.
-#[derive(Drop)]
+#[derive(Clone, Copy)]
 pub struct Standing {
     pub tag: u64,
     pub kind: u64,
@@ -31,28 +31,28 @@ pub struct Standing {
 }
 
 // The item that stands at a place, or that there are no more.
-#[derive(Drop)]
+#[derive(Clone, Copy)]
 pub enum Seen {
     Item(Standing),
     NoMore,
 }
 
 // An item as a row taken out singly, or that there are no more.
-#[derive(Drop)]
+#[derive(Clone, Copy)]
 pub enum Found {
     Item(Row),
     NoMore,
 }
 
 // Whether a walk begins: the packet is accepted, or the refusal.
-#[derive(Drop)]
+#[derive(Clone, Copy)]
 pub enum Begin {
     Good,
     Refused(Refusal),
 }
 
 // How a walk begins, and where.
-#[derive(Drop)]
+#[derive(Clone, Copy)]
 pub struct Begun {
     pub answer: Begin,
     pub at: usize,
@@ -222,7 +222,7 @@ pub fn next_at(packet: &[u8], at: usize) -> usize
 }
 
 // A walker: the packet, its place in it, and the two words of what its receiver knows.
-#[derive(Drop)]
+#[derive(Clone, Copy)]
 pub struct Walker<'a> {
     pub packet: &'a [u8],
     pub at: usize,
@@ -231,14 +231,14 @@ pub struct Walker<'a> {
 }
 
 // How a walk begins: good or the refusal, and the walker, which after a refusal has no more.
-#[derive(Drop)]
+#[derive(Clone, Copy)]
 pub struct Started<'a> {
     pub answer: Begin,
     pub walker: Walker<'a>,
 }
 
 // A step: the item or that there are no more, its value as a part of the packet, and the moved walker.
-#[derive(Drop)]
+#[derive(Clone, Copy)]
 pub struct Passed<'a> {
     pub found: Found,
     pub value: &'a [u8],

@@ -119,12 +119,12 @@ fn put_packet(out: &mut [u8], size: usize, items: usize, count: usize, words: &[
 }
 
 // A packet written: how many bytes of the output it takes.
-#[derive(Drop)]
+#[derive(Clone, Copy)]
 pub struct Written {
     pub size: usize,
 }
 
-#[derive(Drop)]
+#[derive(Clone, Copy)]
 pub enum Writing {
     Packet(Written),
     Refused(Refusal),

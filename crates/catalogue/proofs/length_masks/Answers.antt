@@ -1,16 +1,11 @@
 -- `catalogue::length_masks` meets its contract.
--- Assumes nothing.
 use mathlib.Core.Path.{refl}
 use Rattle.catalogue.specs.Items.{groups, member, item_in, item_of}
 use Rattle.catalogue.specs.Extended.{is_extended}
 use Rattle.catalogue.specs.Shapes.{shape_of}
 use Rattle.catalogue.specs.code.Column.{column_from, mask_column}
-use Rattle.catalogue.proofs.length_masks.Statement.{statement}
-use Rattle.catalogue.proofs.length_masks.Tie as tie
+use Rattle.catalogue.proofs.length_masks.Goals as goal
 
-returns : tie.Need-returns
+pub returns : goal.returns
 unfolding groups member item_in item_of is_extended shape_of column_from mask_column
 returns c = refl
-
-pub length_masks_spec : {M : Type 1} → statement M
-length_masks_spec = tie.close (tie.spec returns)

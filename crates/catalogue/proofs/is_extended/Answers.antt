@@ -1,0 +1,12 @@
+-- `catalogue::is_extended` meets its contract.
+use Rattle.base.proofs.Cases.{cases}
+use Rattle.catalogue.specs.Extended.{is_extended}
+use Rattle.catalogue.proofs.is_extended.Goals as goal
+
+pub returns-then-tag-ge103 : goal.returns-then-tag-ge103
+unfolding is_extended
+returns-then-tag-ge103 c = search cases
+
+pub returns : goal.returns
+unfolding is_extended
+returns c = search cases
