@@ -30,7 +30,7 @@ use Rattle.packet.specs.Judge.{judge}
 use Rattle.packet.specs.Ends.{right_ends}
 use Rattle.packet.specs.Structure.{frame, last_of, ends_of, right_sum, last_sum, closed, structure}
 use Rattle.packet.specs.Encode.{longer_of}
-use Rattle.packet.specs.Verdict.{start_of, judged, body_of, verdict, received, found_at, no_places, places_from, checked}
+use Rattle.packet.specs.Verdict.{one_byte, start_of, judged, body_of, verdict, received, found_at, no_places, places_from, checked}
 use Rattle.packet.specs.Said.{header_at}
 use Rattle.packet.specs.code.Headers.{header_of}
 use Rattle.packet.specs.code.Passing.{Kept, kept, fresh_at, kept_from, Passes}
@@ -147,7 +147,7 @@ module _ (p : List ℕ) (by : Bytes p) (from : ℕ) (inside : from ≤ length p)
       by_bool (eqb g.size 0) (λ z. rw z (omega arith)) (λ z. rw z (by_bool (is_extended g.tag)
       (λ x. rw x (omega (arith, lies.inside)))
       (λ x. rw x lies.inside))) in
-      places_in _ is rest (record { inside = λ t. set_within l _ _ (length p) t (rw size found) h.inside })
+      places_in (set l (one_byte g.tag) (found_at g.tag g.place (length (take g.size (drop g.place p))))) is rest (record { inside = λ t. set_within l _ _ (length p) t (rw size found) h.inside })
 
 module _ (K : TagSet) (words : Words K) (p : List ℕ) (by : Bytes p) (from : ℕ) (k : Kept) (w : Whole K p from k) where
   -- before the first item

@@ -68,9 +68,9 @@ pub record Within (p : List ℕ) (i : Item) : Type 0 where
   pub found : header_at p i.start ≡ given header
 
 pub last_within : (p : List ℕ) → Bytes p → {at : ℕ} (i : Item) (is : List Item) → Walked p at (i ∷ is) → Within p (last_of i is)
-last_within p by i [] (went {at} h e w) =
+last_within p by {at} i [] (went h e w) =
     record { header = h; item = refl; inside = (header_lies p at by h e).inside; found = ap (header_at p) (header_start p at h e) ∙ e }
-last_within p by i (j ∷ js) (went h e w) = last_within p by j js w
+last_within p by {at} i (j ∷ js) (went h e w) = last_within p by {at = h.place + h.size} j js w
 
 -- so does a walk's first item
 pub first_start : (p : List ℕ) {at : ℕ} (i : Item) (is : List Item) → Walked p at (i ∷ is) → i.start ≡ at

@@ -1,0 +1,47 @@
+-- `scale::to_code` meets its contract.
+use borrow.Author.Rules.{rules}
+use mathlib.Core.Path.{◌≡◌, sym, ◌∙◌}
+use mathlib.Core.Bool.{false}
+use mir.Syntax.{w64}
+use mir.Val.{SFits}
+use mir.Facts.{to_z-of_z}
+use Rattle.catalogue.specs.Extended.{is_extended}
+use Rattle.scale.specs.Scales.{is_outside}
+use Rattle.scale.specs.Conversions.{to_code}
+use Rattle.scale.proofs.Given.{Scaled, scaled_rule, scaled_known, every_value_converts, outside_21}
+use Rattle.scale.proofs.to_code.Goals as goal
+
+pub height_to_code-requires : goal.height_to_code-requires
+height_to_code-requires c = sym c.is_extended.ensures ∙ c.if-is_extended.true
+
+pub returns-then-is_extended : goal.returns-then-is_extended
+returns-then-is_extended c = rw (to_z-of_z ((let value_fits : SFits w64 c.args.value = search rules in value_fits))) at c.height_to_code.ensures
+
+pub scaled_item-requires : goal.scaled_item-requires
+scaled_item-requires c = (let plain : is_extended c.args.tag ≡ false = sym c.is_extended.ensures ∙ c.if-is_extended.false in plain)
+
+pub returns-then-is_outside : goal.returns-then-is_outside
+returns-then-is_outside c =
+    let n = c in
+    let e = c.refuse.ensures in
+    rw (outside_21 ((let has_scale : Scaled c.args.tag c.in-Known.item = scaled_known _ _ (sym c.scaled_item.ensures ∙ c.in-Known.is) in has_scale)) _ _ ((let outside_is : let k = c in is_outside k.in-Known.item k.args.value ≡ c.is_outside.result = let k = c in let i = k.in-Known.item in let low : SFits w64 i.low = search rules in let high : SFits w64 i.high = search rules in sym (rw (to_z-of_z low, to_z-of_z high, to_z-of_z ((let value_fits : SFits w64 c.args.value = search rules in value_fits))) at c.is_outside.ensures) in outside_is) ∙ c.if-is_outside.true), e.0, e.1, e.2)
+
+pub code_of-requires : goal.code_of-requires
+code_of-requires c =
+    let n = c in
+    let k = n in
+    rw (to_z-of_z ((let value_fits : SFits w64 c.args.value = search rules in value_fits))) (scaled_rule ((let has_scale : Scaled c.args.tag c.in-Known.item = scaled_known _ _ (sym c.scaled_item.ensures ∙ c.in-Known.is) in has_scale)), (let outside_is : let k = c in is_outside k.in-Known.item k.args.value ≡ c.is_outside.result = let k = c in let i = k.in-Known.item in let low : SFits w64 i.low = search rules in let high : SFits w64 i.high = search rules in sym (rw (to_z-of_z low, to_z-of_z high, to_z-of_z ((let value_fits : SFits w64 c.args.value = search rules in value_fits))) at c.is_outside.ensures) in outside_is) ∙ c.if-is_outside.false)
+
+pub returns-else-is_outside : goal.returns-else-is_outside
+returns-else-is_outside c =
+    let n = c in
+    let k = n in
+    let fits = (let value_fits : SFits w64 c.args.value = search rules in value_fits) in
+    rw (every_value_converts ((let has_scale : Scaled c.args.tag c.in-Known.item = scaled_known _ _ (sym c.scaled_item.ensures ∙ c.in-Known.is) in has_scale)) _ _ ((let outside_is : let k = c in is_outside k.in-Known.item k.args.value ≡ c.is_outside.result = let k = c in let i = k.in-Known.item in let low : SFits w64 i.low = search rules in let high : SFits w64 i.high = search rules in sym (rw (to_z-of_z low, to_z-of_z high, to_z-of_z ((let value_fits : SFits w64 c.args.value = search rules in value_fits))) at c.is_outside.ensures) in outside_is) ∙ c.if-is_outside.false), rw (to_z-of_z fits) at c.code_of.ensures)
+
+pub returns-in-Absent : goal.returns-in-Absent
+unfolding to_code
+returns-in-Absent c =
+    let f = c in
+    let e = c.refuse-in-Absent.ensures in
+    rw ((let plain : is_extended c.args.tag ≡ false = sym c.is_extended.ensures ∙ c.if-is_extended.false in plain), ← f.scaled_item.ensures, c.in-Absent.is, e.0, e.1, e.2)
