@@ -45,7 +45,7 @@ items_at at (c ∷ cs) = record { start = at; place = at + short_head c; piece =
 pub pieces_at : (at : ℕ) (cs : List Piece) → pieces (items_at at cs) ≡ cs
 unfolding items_at
 pieces_at at [] = refl
-pieces_at at (c ∷ cs) = rw (pieces_at _ cs)
+pieces_at at (c ∷ cs) = ap (λ ds. c ∷ ds) (pieces_at (at + (short_head c + length c.value)) cs)
 
 pub length_pieces : (is : List Item) → length (pieces is) ≡ length is
 length_pieces [] = refl
@@ -72,7 +72,7 @@ items_written at (c ∷ cs) t k =
     let form : List ℕ = length_bytes (length c.value) in
     let l = length-append (item_bytes c) (items_bytes cs) in
     let i = another {at = at} c form (items_bytes cs) t.0.some t.0.small (length_form _ (omega (arith, l, length_item c)))
-    (items_written _ cs t.1 (omega (arith, l))) in
+    (items_written (at + (short_head c + length c.value)) cs t.1 (omega (arith, l))) in
     rw (append_assoc (tag_bytes c.tag) (form ++ c.value) (items_bytes cs), append_assoc form c.value (items_bytes cs)) i
 
 -- the checksum's piece

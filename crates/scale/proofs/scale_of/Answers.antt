@@ -16,22 +16,6 @@ use Rattle.scale.specs.declared.Scale.{Scale}
 use Rattle.scale.proofs.Items.{codes_are, steps_unsigned, steps_signed, origin_signed, counted_scales, unsigned_scales}
 use Rattle.scale.proofs.scale_of.Goals as goal
 
-signed_needs : (k : tie.After-codes-of) → signed k.before.args.item ≡ true
-    → (2 ≤ k.codes-of.result) × (lt_z (to_z w64 (of_z w64 k.before.args.item.high)) (pos 0) ≡ false)
-signed_needs k e =
-    let item = k.before.args.item in
-    let r = k.before.requires in
-    let high : SFits w64 item.high = search rules in
-    rw (k.codes-of.ensures ∙ codes_are item r, to_z-of_z high)
-    (omega (arith, r.halves, r.odd, steps_signed item r e), rw (origin_signed item r e) at r.high_above)
-
-counted : (k : tie.After-codes-of) (s : Scale) → signed k.before.args.item ≡ true
-    → Counted k.codes-of.result (to_z w64 (of_z w64 k.before.args.item.high)) s → Scales k.before.args.item s
-counted k s e h =
-    let item = k.before.args.item in
-    let high : SFits w64 item.high = search rules in
-    counted_scales item k.before.requires s e (rw (k.codes-of.ensures ∙ codes_are item k.before.requires, to_z-of_z high) at h)
-
 pub apart-requires : goal.apart-requires
 apart-requires c =
     let a = c in
@@ -48,10 +32,16 @@ overflow_sub-result c =
     omega (arith, e, a.requires.odd, steps_unsigned item a.requires (ap is_signed c.in-Unsigned.is))
 
 pub two_sided-requires : goal.two_sided-requires
-two_sided-requires c = signed_needs c (ap is_signed c.in-Signed.is)
+two_sided-requires c =
+    let signed_needs : signed c.args.item ≡ true → (2 ≤ c.codes_of-codes.result) × (lt_z (to_z w64 (of_z w64 c.args.item.high)) (pos 0) ≡ false) = (λ e. let item = c.args.item in let r = c.requires in let high : SFits w64 item.high = search rules in rw (c.codes_of-codes.ensures ∙ codes_are item r, to_z-of_z high) (omega (arith, r.halves, r.odd, steps_signed item r e), rw (origin_signed item r e) at r.high_above)) in
+    let both = signed_needs (ap is_signed c.in-Signed.is) in
+    record { le_codes = both.0; pos_value = both.1 }
 
 pub two_sided-requires-in-Marked : goal.two_sided-requires-in-Marked
-two_sided-requires-in-Marked c = signed_needs c (ap is_signed c.in-Marked.is)
+two_sided-requires-in-Marked c =
+    let signed_needs : signed c.args.item ≡ true → (2 ≤ c.codes_of-codes.result) × (lt_z (to_z w64 (of_z w64 c.args.item.high)) (pos 0) ≡ false) = (λ e. let item = c.args.item in let r = c.requires in let high : SFits w64 item.high = search rules in rw (c.codes_of-codes.ensures ∙ codes_are item r, to_z-of_z high) (omega (arith, r.halves, r.odd, steps_signed item r e), rw (origin_signed item r e) at r.high_above)) in
+    let both = signed_needs (ap is_signed c.in-Marked.is) in
+    record { le_codes = both.0; pos_value = both.1 }
 
 pub returns-in-Unsigned : goal.returns-in-Unsigned
 returns-in-Unsigned c =
@@ -64,7 +54,11 @@ returns-in-Unsigned c =
     (ap (λ x. x / 5) (rw (to_z-of_z low, to_z-of_z high) at c.apart.ensures)) (ap (λ x. (x - 1) / 5) e)
 
 pub returns-in-Signed : goal.returns-in-Signed
-returns-in-Signed c = counted c _ (ap is_signed c.in-Signed.is) c.two_sided.ensures
+returns-in-Signed c =
+    let counted : (s : Scale) → signed c.args.item ≡ true → Counted c.codes_of-codes.result (to_z w64 (of_z w64 c.args.item.high)) s → Scales c.args.item s = (λ s e h. let item = c.args.item in let high : SFits w64 item.high = search rules in counted_scales item c.requires s e (rw (c.codes_of-codes.ensures ∙ codes_are item c.requires, to_z-of_z high) at h)) in
+    counted _ (ap is_signed c.in-Signed.is) c.two_sided.ensures
 
 pub returns-in-Marked : goal.returns-in-Marked
-returns-in-Marked c = counted c _ (ap is_signed c.in-Marked.is) c.two_sided-in-Marked.ensures
+returns-in-Marked c =
+    let counted : (s : Scale) → signed c.args.item ≡ true → Counted c.codes_of-codes.result (to_z w64 (of_z w64 c.args.item.high)) s → Scales c.args.item s = (λ s e h. let item = c.args.item in let high : SFits w64 item.high = search rules in counted_scales item c.requires s e (rw (c.codes_of-codes.ensures ∙ codes_are item c.requires, to_z-of_z high) at h)) in
+    counted _ (ap is_signed c.in-Marked.is) c.two_sided-in-Marked.ensures

@@ -15,33 +15,47 @@ pub height_to_code-requires : goal.height_to_code-requires
 height_to_code-requires c = sym c.is_extended.ensures ∙ c.if-is_extended.true
 
 pub returns-then-is_extended : goal.returns-then-is_extended
-returns-then-is_extended c = rw (to_z-of_z ((let value_fits : SFits w64 c.args.value = search rules in value_fits))) at c.height_to_code.ensures
+returns-then-is_extended c =
+    let value_fits : SFits w64 c.args.value = search rules in
+    rw (to_z-of_z (value_fits)) at c.height_to_code.ensures
 
 pub scaled_item-requires : goal.scaled_item-requires
-scaled_item-requires c = (let plain : is_extended c.args.tag ≡ false = sym c.is_extended.ensures ∙ c.if-is_extended.false in plain)
+scaled_item-requires c =
+    let plain : is_extended c.args.tag ≡ false = sym c.is_extended.ensures ∙ c.if-is_extended.false in
+    plain
 
 pub returns-then-is_outside : goal.returns-then-is_outside
 returns-then-is_outside c =
+    let value_fits : SFits w64 c.args.value = search rules in
+    let has_scale : Scaled c.args.tag c.in-Known.item = scaled_known _ _ (sym c.scaled_item.ensures ∙ c.in-Known.is) in
+    let outside_is : let k = c in is_outside k.in-Known.item k.args.value ≡ c.is_outside.result = (let k = c in let i = k.in-Known.item in let low : SFits w64 i.low = search rules in let high : SFits w64 i.high = search rules in sym (rw (to_z-of_z low, to_z-of_z high, to_z-of_z (value_fits)) at c.is_outside.ensures)) in
     let n = c in
     let e = c.refuse.ensures in
-    rw (outside_21 ((let has_scale : Scaled c.args.tag c.in-Known.item = scaled_known _ _ (sym c.scaled_item.ensures ∙ c.in-Known.is) in has_scale)) _ _ ((let outside_is : let k = c in is_outside k.in-Known.item k.args.value ≡ c.is_outside.result = let k = c in let i = k.in-Known.item in let low : SFits w64 i.low = search rules in let high : SFits w64 i.high = search rules in sym (rw (to_z-of_z low, to_z-of_z high, to_z-of_z ((let value_fits : SFits w64 c.args.value = search rules in value_fits))) at c.is_outside.ensures) in outside_is) ∙ c.if-is_outside.true), e.0, e.1, e.2)
+    rw (outside_21 (has_scale) _ _ (outside_is ∙ c.if-is_outside.true), e.0, e.1, e.2)
 
 pub code_of-requires : goal.code_of-requires
 code_of-requires c =
+    let value_fits : SFits w64 c.args.value = search rules in
+    let has_scale : Scaled c.args.tag c.in-Known.item = scaled_known _ _ (sym c.scaled_item.ensures ∙ c.in-Known.is) in
+    let outside_is : let k = c in is_outside k.in-Known.item k.args.value ≡ c.is_outside.result = (let k = c in let i = k.in-Known.item in let low : SFits w64 i.low = search rules in let high : SFits w64 i.high = search rules in sym (rw (to_z-of_z low, to_z-of_z high, to_z-of_z (value_fits)) at c.is_outside.ensures)) in
     let n = c in
     let k = n in
-    rw (to_z-of_z ((let value_fits : SFits w64 c.args.value = search rules in value_fits))) (scaled_rule ((let has_scale : Scaled c.args.tag c.in-Known.item = scaled_known _ _ (sym c.scaled_item.ensures ∙ c.in-Known.is) in has_scale)), (let outside_is : let k = c in is_outside k.in-Known.item k.args.value ≡ c.is_outside.result = let k = c in let i = k.in-Known.item in let low : SFits w64 i.low = search rules in let high : SFits w64 i.high = search rules in sym (rw (to_z-of_z low, to_z-of_z high, to_z-of_z ((let value_fits : SFits w64 c.args.value = search rules in value_fits))) at c.is_outside.ensures) in outside_is) ∙ c.if-is_outside.false)
+    rw (to_z-of_z (value_fits)) record { rule = scaled_rule (has_scale); value_value = outside_is ∙ c.if-is_outside.false }
 
 pub returns-else-is_outside : goal.returns-else-is_outside
 returns-else-is_outside c =
+    let value_fits : SFits w64 c.args.value = search rules in
+    let has_scale : Scaled c.args.tag c.in-Known.item = scaled_known _ _ (sym c.scaled_item.ensures ∙ c.in-Known.is) in
+    let outside_is : let k = c in is_outside k.in-Known.item k.args.value ≡ c.is_outside.result = (let k = c in let i = k.in-Known.item in let low : SFits w64 i.low = search rules in let high : SFits w64 i.high = search rules in sym (rw (to_z-of_z low, to_z-of_z high, to_z-of_z (value_fits)) at c.is_outside.ensures)) in
     let n = c in
     let k = n in
-    let fits = (let value_fits : SFits w64 c.args.value = search rules in value_fits) in
-    rw (every_value_converts ((let has_scale : Scaled c.args.tag c.in-Known.item = scaled_known _ _ (sym c.scaled_item.ensures ∙ c.in-Known.is) in has_scale)) _ _ ((let outside_is : let k = c in is_outside k.in-Known.item k.args.value ≡ c.is_outside.result = let k = c in let i = k.in-Known.item in let low : SFits w64 i.low = search rules in let high : SFits w64 i.high = search rules in sym (rw (to_z-of_z low, to_z-of_z high, to_z-of_z ((let value_fits : SFits w64 c.args.value = search rules in value_fits))) at c.is_outside.ensures) in outside_is) ∙ c.if-is_outside.false), rw (to_z-of_z fits) at c.code_of.ensures)
+    let fits = value_fits in
+    rw (every_value_converts (has_scale) _ _ (outside_is ∙ c.if-is_outside.false), rw (to_z-of_z fits) at c.code_of.ensures)
 
 pub returns-in-Absent : goal.returns-in-Absent
 unfolding to_code
 returns-in-Absent c =
+    let plain : is_extended c.args.tag ≡ false = sym c.is_extended.ensures ∙ c.if-is_extended.false in
     let f = c in
     let e = c.refuse-in-Absent.ensures in
-    rw ((let plain : is_extended c.args.tag ≡ false = sym c.is_extended.ensures ∙ c.if-is_extended.false in plain), ← f.scaled_item.ensures, c.in-Absent.is, e.0, e.1, e.2)
+    rw (plain, ← f.scaled_item.ensures, c.in-Absent.is, e.0, e.1, e.2)

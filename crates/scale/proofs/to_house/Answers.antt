@@ -14,29 +14,38 @@ pub height_to_house-requires : goal.height_to_house-requires
 height_to_house-requires c = sym c.is_extended.ensures ∙ c.if-is_extended.true
 
 pub scaled_item-requires : goal.scaled_item-requires
-scaled_item-requires c = (let plain : is_extended c.args.tag ≡ false = sym c.is_extended.ensures ∙ c.if-is_extended.false in plain)
+scaled_item-requires c =
+    let plain : is_extended c.args.tag ≡ false = sym c.is_extended.ensures ∙ c.if-is_extended.false in
+    plain
 
 pub is_number-requires : goal.is_number-requires
-is_number-requires c = scaled_rule ((let has_scale : Scaled c.args.tag c.in-Known.item = scaled_known _ _ (sym c.scaled_item.ensures ∙ c.in-Known.is) in has_scale))
+is_number-requires c =
+    let has_scale : Scaled c.args.tag c.in-Known.item = scaled_known _ _ (sym c.scaled_item.ensures ∙ c.in-Known.is) in
+    scaled_rule (has_scale)
 
 pub house_of-requires : goal.house_of-requires
-house_of-requires c = record { rule = scaled_rule ((let has_scale : Scaled c.args.tag c.in-Known.item = scaled_known _ _ (sym c.scaled_item.ensures ∙ c.in-Known.is) in has_scale)); code_value = sym c.is_number.ensures ∙ c.if-is_number.true }
+house_of-requires c =
+    let has_scale : Scaled c.args.tag c.in-Known.item = scaled_known _ _ (sym c.scaled_item.ensures ∙ c.in-Known.is) in
+    record { rule = scaled_rule (has_scale); code_value = sym c.is_number.ensures ∙ c.if-is_number.true }
 
 pub returns-then-is_number : goal.returns-then-is_number
 returns-then-is_number c =
+    let has_scale : Scaled c.args.tag c.in-Known.item = scaled_known _ _ (sym c.scaled_item.ensures ∙ c.in-Known.is) in
     let n = c in
     let fits : SFits w64 c.house_of.result = search rules in
-    rw (every_code_converts ((let has_scale : Scaled c.args.tag c.in-Known.item = scaled_known _ _ (sym c.scaled_item.ensures ∙ c.in-Known.is) in has_scale)) _ _ (sym n.is_number.ensures ∙ c.if-is_number.true), to_z-of_z fits, c.house_of.ensures)
+    rw (every_code_converts (has_scale) _ _ (sym n.is_number.ensures ∙ c.if-is_number.true), to_z-of_z fits, c.house_of.ensures)
 
 pub returns-else-is_number : goal.returns-else-is_number
 returns-else-is_number c =
+    let has_scale : Scaled c.args.tag c.in-Known.item = scaled_known _ _ (sym c.scaled_item.ensures ∙ c.in-Known.is) in
     let n = c in
     let e = c.refuse.ensures in
-    rw (no_number_20 ((let has_scale : Scaled c.args.tag c.in-Known.item = scaled_known _ _ (sym c.scaled_item.ensures ∙ c.in-Known.is) in has_scale)) _ _ (sym n.is_number.ensures ∙ c.if-is_number.false), e.0, e.1, e.2)
+    rw (no_number_20 (has_scale) _ _ (sym n.is_number.ensures ∙ c.if-is_number.false), e.0, e.1, e.2)
 
 pub returns-in-Absent : goal.returns-in-Absent
 unfolding to_house
 returns-in-Absent c =
+    let plain : is_extended c.args.tag ≡ false = sym c.is_extended.ensures ∙ c.if-is_extended.false in
     let f = c in
     let e = c.refuse-in-Absent.ensures in
-    rw ((let plain : is_extended c.args.tag ≡ false = sym c.is_extended.ensures ∙ c.if-is_extended.false in plain), ← f.scaled_item.ensures, c.in-Absent.is, e.0, e.1, e.2)
+    rw (plain, ← f.scaled_item.ensures, c.in-Absent.is, e.0, e.1, e.2)
