@@ -3,12 +3,12 @@ use native.Mathlib.Nat.{sub-zero}
 use native.Mathlib.Omega.{arith}
 use Prim.Native.Nat.{◌-◌}
 use mathlib.Core.Path.{◌≡◌, sym, ◌∙◌}
-use mathlib.Core.Logic.{⊎_elim}
 use borrow.Author.Tests.{eq-eqb, ne_eqb}
 use Rattle.rows.specs.Meaning.{carried_kind}
 use Rattle.rows.specs.Present.{is_present, with_row, present_in}
 use Rattle.outgoing.proofs.Walked.{words_more, words_end}
 use Rattle.outgoing.proofs.present_of.Goals as goal
+use Rattle.outgoing.proofs.present_of.Goals.{then-row-ne-CARRIED, else-row-ne-CARRIED}
 
 pub loop-n-init : goal.loop-n-init
 unfolding present_in
@@ -19,10 +19,13 @@ loop-n-smaller c = omega arith
 
 pub loop-n-preserved : goal.loop-n-preserved
 loop-n-preserved c =
-    let passed : (let row = c in c.if-row-ne-CARRIED.present ≡ with_row is_present row.loop-n.present row.row_at-row.result) = (let kind = c.row_at-row.result.kind in ⊎_elim (λ w. w.2 ∙ (w.1.ensures ∙ sym (rw (ne_eqb kind carried_kind w.0.taken)))) (λ w. w.1 ∙ sym (rw (eq-eqb kind carried_kind w.0.left))) c.if-row-ne-CARRIED.branch) in
-    let row = c in
-    let l = row in
-    rw (passed) (sym (words_more _ _ _ row.loop-n-test.true _ row.row_at-row.ensures l.loop-n.present) ∙ l.loop-n.invariant)
+    let kind = c.row_at-row.result.kind in
+    let passed : c.if-row-ne-CARRIED.present ≡ with_row is_present c.loop-n.present c.row_at-row.result =
+    elim c.if-row-ne-CARRIED.branch [
+      | then-row-ne-CARRIED w ↦ w.present-is ∙ (w.with_tag-present.ensures ∙ sym (rw (ne_eqb kind carried_kind w.if-row-ne-CARRIED.true)))
+      | else-row-ne-CARRIED w ↦ w.present-is ∙ sym (rw (eq-eqb kind carried_kind w.if-row-ne-CARRIED.false))
+    ] in
+    rw passed (sym (words_more _ _ _ c.loop-n-test.true _ c.row_at-row.ensures c.loop-n.present) ∙ c.loop-n.invariant)
 
 pub returns : goal.returns
 returns c =
