@@ -25,7 +25,7 @@ loop-n-preserved c =
     let s = c in
     let l = s.loop-n in (
       omega (arith, s.loop-n-test.true),
-      c.put_line-at.auto.0 ∙ l.invariant.1,
+      c.put_line-at.auto.out ∙ l.invariant.1,
       written _ _ _ _ l.invariant.2 s.loop-n-test.true _ c.row_at-row.ensures c.put_line-at.ensures,
     )
 

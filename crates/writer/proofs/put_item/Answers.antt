@@ -1,0 +1,21 @@
+-- `writer::put_item` meets its contract.
+use Rattle.writer.proofs.Pieces.{header_room, room_behind, wrote_behind}
+use Rattle.writer.proofs.Values.{said_size}
+use Rattle.writer.proofs.put_item.Goals as goal
+
+pub put_header-place-requires : goal.put_header-place-requires
+put_header-place-requires c =
+    let s = c in
+    (s.requires.0.tagged, header_room _ (said_size _ _ s.requires.0) s.requires.1)
+
+pub put_value-requires : goal.put_value-requires
+put_value-requires c =
+    let h = c in
+    let s = h in
+    (s.requires.0, room_behind _ (said_size _ _ s.requires.0) s.requires.1 h.put_header-place.ensures)
+
+pub returns : goal.returns
+returns c =
+    let h = c in
+    let s = h in
+    wrote_behind _ (said_size _ _ s.requires.0) s.requires.1 h.put_header-place.ensures c.put_value.ensures

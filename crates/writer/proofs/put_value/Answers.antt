@@ -1,0 +1,22 @@
+-- `writer::put_value` meets its contract.
+use Rattle.base.proofs.Putting.{wrote_as}
+use mathlib.Core.Path.{sym}
+use Rattle.writer.proofs.Values.{number_said, part_said}
+use Rattle.writer.proofs.put_value.Goals as goal
+
+pub copy-requires : goal.copy-requires
+copy-requires c =
+    let s = c in
+    (s.requires.1, λ some. s.requires.0.inside c.if-row-lt-TEXT.false some)
+
+pub returns-then-row-lt-TEXT : goal.returns-then-row-lt-TEXT
+returns-then-row-lt-TEXT c =
+    let test = c in
+    let a = test.args in
+    wrote_as (sym (number_said a.buffer.now a.row test.if-row-lt-TEXT.true)) c.put_number.ensures
+
+pub returns-else-row-lt-TEXT : goal.returns-else-row-lt-TEXT
+returns-else-row-lt-TEXT c =
+    let test = c in
+    let a = test.args in
+    wrote_as (sym (part_said a.buffer.now a.row test.if-row-lt-TEXT.false)) c.copy.ensures
