@@ -54,7 +54,7 @@ items_longer p by {at} (i ∷ is) (went h e rest) k =
     let one = item_size p h l.inside refl refl in
     let by_size : longer_by i ≡ longer_in h = ap (λ n. h.place - h.start - length (tag_bytes h.tag) - length (length_bytes n)) size in
     let both = length-append (item_bytes (item_by p h).piece) (items_bytes (pieces is)) in
-    omega (arith, l, header_start p at h e, one, by_size, both, items_longer p by is rest l.inside)
+    omega (arith, l, header_start p at h e, one, by_size, both, items_longer p by {at = h.place + h.size} is rest l.inside)
 
 -- those of a packet of right structure, which begin before its end
 some_inside : (p : List ℕ) → Bytes p → {at : ℕ} {is js : List Item} {i : Item} → Walked p at is → is ≡ i ∷ js → at ≤ length p

@@ -1,4 +1,3 @@
-pub mod Held
 pub mod Headers
 pub mod Rows
 pub mod Handed

@@ -31,19 +31,19 @@ returns-then-size-lt128 c =
 
 pub overflow_add-after : goal.overflow_add-after
 overflow_add-after c =
-    let tagged : (let a = c.args in Wrote a.out.now a.at (tag_bytes a.tag) (a.at + c.put_tag.result) c.put_tag.new.0) = puts_wrote (room_first _ c.requires.1) c.put_tag.ensures in
+    let tagged : (let a = c.args in Wrote a.out.now a.at (tag_bytes a.tag) (a.at + c.put_tag.result) c.put_tag.new.out) = puts_wrote (room_first _ c.requires.1) c.put_tag.ensures in
     let t = c in
     omega (arith, (tagged).inside, t.well_formed)
 
 pub overflow_add-result-2 : goal.overflow_add-result-2
 overflow_add-result-2 c =
-    let tagged : (let a = c.args in Wrote a.out.now a.at (tag_bytes a.tag) (a.at + c.put_tag.result) c.put_tag.new.0) = puts_wrote (room_first _ c.requires.1) c.put_tag.ensures in
-    let both : (let t = c in let a = t.args in Wrote a.out.now a.at (tag_bytes a.tag ++ length_bytes a.size) (a.at + t.put_tag.result + c.put_length.result) c.put_length.new.0) = (let t = c in wrote_then (tagged) (puts_wrote (room_after (tagged) t.requires.1) c.put_length.ensures)) in
+    let tagged : (let a = c.args in Wrote a.out.now a.at (tag_bytes a.tag) (a.at + c.put_tag.result) c.put_tag.new.out) = puts_wrote (room_first _ c.requires.1) c.put_tag.ensures in
+    let both : (let t = c in let a = t.args in Wrote a.out.now a.at (tag_bytes a.tag ++ length_bytes a.size) (a.at + t.put_tag.result + c.put_length.result) c.put_length.new.out) = (let t = c in wrote_then (tagged) (puts_wrote (room_after (tagged) t.requires.1) c.put_length.ensures)) in
     let l = c in
     omega (arith, (both).inside, l.well_formed)
 
 pub returns : goal.returns
 returns c =
-    let tagged : (let a = c.args in Wrote a.out.now a.at (tag_bytes a.tag) (a.at + c.put_tag.result) c.put_tag.new.0) = puts_wrote (room_first _ c.requires.1) c.put_tag.ensures in
-    let both : (let t = c in let a = t.args in Wrote a.out.now a.at (tag_bytes a.tag ++ length_bytes a.size) (a.at + t.put_tag.result + c.put_length.result) c.put_length.new.0) = (let t = c in wrote_then (tagged) (puts_wrote (room_after (tagged) t.requires.1) c.put_length.ensures)) in
+    let tagged : (let a = c.args in Wrote a.out.now a.at (tag_bytes a.tag) (a.at + c.put_tag.result) c.put_tag.new.out) = puts_wrote (room_first _ c.requires.1) c.put_tag.ensures in
+    let both : (let t = c in let a = t.args in Wrote a.out.now a.at (tag_bytes a.tag ++ length_bytes a.size) (a.at + t.put_tag.result + c.put_length.result) c.put_length.new.out) = (let t = c in wrote_then (tagged) (puts_wrote (room_after (tagged) t.requires.1) c.put_length.ensures)) in
     both
