@@ -1,4 +1,3 @@
-pub mod Lent
 pub mod Laws
 pub mod Outcomes
 pub mod Same

@@ -139,7 +139,8 @@ fn table_of(records: &[Row], n: usize) -> [u64; 512]
     let mut t = blank();
     let mut i = 0;
     while i < n {
-        t = put_record(t, i, record_at(records, i));
+        let next = put_record(t, i, record_at(records, i));
+        t = next;
         i = i + 1;
     }
     t
