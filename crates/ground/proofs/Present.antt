@@ -1,7 +1,7 @@
 -- What the rows of an accepted packet say of a scaled tag that the receiver knows: nothing where no row has the tag or it is withdrawn, off the
 -- Earth just where the row is a mark, and otherwise the reading in house units, which is never refused.
 -- Assumes nothing.
-use Prim.Native.Nat.{ℕ, ◌+◌, ◌-◌, ◌*◌, ◌^◌}
+use Prim.Native.Nat.{ℕ, ◌+◌, ◌*◌, ◌^◌}
 use native.Mathlib.Omega.{arith}
 use mathlib.Core.Path.{◌≡◌, sym, ap, ◌∙◌}
 use mathlib.Core.Bool.{Bool, true, false, ◌&&◌}

@@ -1,5 +1,5 @@
 -- Document 01, Rows: the table that a packet fills, and what its rows stand for.
-use Rattle.std.specs.Prelude.{ℕ, zero, suc, ◌+◌, ◌-◌, ◌*◌, ◌≡◌, false, cond, List, [], ◌∷◌, ◌++◌, length, take, drop, replicate, ltb}
+use Rattle.std.specs.Prelude.{ℕ, zero, suc, ◌-◌, ◌*◌, ◌≡◌, false, cond, List, [], ◌∷◌, ◌++◌, length, take, drop, replicate, ltb}
 use Rattle.refusal.specs.Answer.{Answer, refused, map, or_else}
 use Rattle.number.specs.Stored.{bytes_of}
 use Rattle.tagset.specs.Sets.{holds}

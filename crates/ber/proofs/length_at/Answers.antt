@@ -1,6 +1,5 @@
 -- `ber::length_at` meets its contract.
 use native.Mathlib.Omega.{arith}
-use Prim.Native.Nat.{◌-◌}
 use lib.ListN.{length-drop}
 use Rattle.base.proofs.Cases.{cases}
 use Rattle.base.proofs.Parts.{byte_at, nil_at}

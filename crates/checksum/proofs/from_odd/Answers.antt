@@ -1,5 +1,5 @@
 -- `checksum::from_odd` meets its contract: the sum so far with that of the bytes left is the sum of all, modulo 65,536.
-use Rattle.std.proofs.Common.{◌≡◌, ◌-◌, ◌*◌, ◌/◌, length, drop, ap, arith, rules}
+use Rattle.std.proofs.Common.{◌≡◌, ◌*◌, ◌/◌, length, drop, ap, arith, rules}
 use Rattle.checksum.specs.Sum.{weighed}
 use Rattle.checksum.proofs.Laws.{none_left, one_left, pair_left}
 use Rattle.checksum.proofs.from_odd.Goals as goal

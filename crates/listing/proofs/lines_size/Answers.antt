@@ -1,5 +1,4 @@
 -- `listing::lines_size` meets its contract.
-use Prim.Native.Nat.{◌-◌}
 use native.Mathlib.Omega.{arith}
 use Rattle.listing.proofs.Rows.{none_counted, to_count, counted, within, all_counted}
 use Rattle.listing.proofs.lines_size.Goals as goal

@@ -1,5 +1,4 @@
 -- `listing::put_lines` meets its contract.
-use Prim.Native.Nat.{◌-◌}
 use mathlib.Core.Path.{refl, ◌∙◌}
 use native.Mathlib.Omega.{arith}
 use Rattle.base.proofs.Putting.{to_write}

@@ -1,6 +1,6 @@
 -- `number::of_any_length` meets its contract: the value so far, gone on with the bytes that are left, is the value of all, modulo 2 ^ 64.
 use mathlib.Core.Path.{refl, ◌∙◌}
-use Prim.Native.Nat.{◌+◌, ◌*◌, ◌-◌, ◌%◌, ◌^◌}
+use Prim.Native.Nat.{◌+◌, ◌*◌, ◌%◌, ◌^◌}
 use native.Mathlib.Omega.{arith}
 use lib.ListN.{drop, get_or}
 use Rattle.base.proofs.Parts.{cons_at, nil_at}

@@ -1,7 +1,6 @@
 -- `outgoing::judged` meets its contract.
 use native.Mathlib.Nat.{sub-zero}
 use native.Mathlib.Omega.{arith}
-use Prim.Native.Nat.{◌-◌}
 use mathlib.Core.Path.{sym, ap, ◌∙◌}
 use Rattle.packet.specs.Said.{fault_said}
 use Rattle.outgoing.proofs.Walked.{judged_more, judged_wrong, judged_end}

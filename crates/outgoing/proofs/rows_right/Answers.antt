@@ -1,7 +1,6 @@
 -- `outgoing::rows_right` meets its contract.
 use native.Mathlib.Nat.{sub-zero}
 use native.Mathlib.Omega.{arith}
-use Prim.Native.Nat.{◌-◌}
 use mathlib.Core.Path.{sym, ◌∙◌}
 use Rattle.tagset.specs.Sets.{holds}
 use Rattle.rows.proofs.Laws.{shape_by_column}

@@ -1,10 +1,5 @@
 -- src/lib.rt:641:8
 use mathlib.Core.Path.{sym, ◌∙◌}
-use Rattle.packet.proofs.begun.Reads as reads
-use Rattle.packet.proofs.begun.Lts as lts
-use Rattle.knowing.proofs.is_good.Reads as is-good-reads
-use Rattle.packet.proofs.framed.Reads as framed-reads
-use Rattle.packet.proofs.unframed.Reads as unframed-reads
 use Rattle.packet.proofs.begun.Goals as goal
 
 pub returns-then-is_good : goal.returns-then-is_good

@@ -1,9 +1,5 @@
 -- src/lib.rt:257:5
 use native.Mathlib.Omega.{arith}
-use Rattle.packet.proofs.longer_by.Reads as reads
-use Rattle.packet.proofs.longer_by.Lts as lts
-use Rattle.ber.proofs.length_size.Reads as length-size-reads
-use Rattle.ber.proofs.tag_size.Reads as tag-size-reads
 use Rattle.packet.proofs.longer_by.Goals as goal
 
 pub overflow_sub-result : goal.overflow_sub-result

@@ -1,7 +1,5 @@
 -- src/lib.rt:247:9
 use borrow.Author.Tests.{lt-ltb, le-ltb}
-use Rattle.packet.proofs.one_byte.Reads as reads
-use Rattle.packet.proofs.one_byte.Lts as lts
 use Rattle.packet.proofs.one_byte.Goals as goal
 
 pub returns-then-x-lt128 : goal.returns-then-x-lt128

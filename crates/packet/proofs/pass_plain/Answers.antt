@@ -1,5 +1,4 @@
 -- `packet::pass_plain` meets its contract.
-use Prim.Native.Nat.{◌-◌}
 use native.Mathlib.Omega.{arith}
 use mathlib.Core.Path.{ap, subst}
 use lib.ListN.{set}

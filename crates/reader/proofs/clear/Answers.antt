@@ -1,5 +1,4 @@
 -- `reader::clear` meets its contract.
-use Prim.Native.Nat.{◌-◌}
 use lib.ListN.{length-set}
 use Rattle.reader.proofs.Laws.{clear_more, clear_none}
 use mathlib.Core.Path.{refl, sym, ◌∙◌}

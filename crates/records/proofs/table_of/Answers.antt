@@ -1,6 +1,5 @@
 -- `records::table_of` meets its contract: record by record.
-use Rattle.std.proofs.Common.{ap, ◌∙◌, add-one, arith, replicate}
-use Rattle.records.specs.Images.{image_of, put_image, images_into}
+use Rattle.std.proofs.Common.{◌∙◌, add-one, arith, replicate}
 use Rattle.records.proofs.Laws.{images_none, images_more}
 use Rattle.records.proofs.table_of.Goals as goal
 

@@ -1,5 +1,5 @@
 -- `records::write_records` meets its contract: the table that is handed on is that of the records' images.
-use Rattle.std.proofs.Common.{◌≡◌, ap, ◌∙◌, length, replicate}
+use Rattle.std.proofs.Common.{◌≡◌, ap, ◌∙◌, replicate}
 use Rattle.records.specs.Images.{images_into, image_table}
 use Rattle.records.proofs.Laws.{table_is}
 use Rattle.records.proofs.write_records.Goals as goal

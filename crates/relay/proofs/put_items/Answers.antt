@@ -1,5 +1,4 @@
 -- `relay::put_items` meets its contract.
-use Prim.Native.Nat.{◌-◌}
 use native.Mathlib.Omega.{arith}
 use mathlib.Core.Path.{refl, sym, ap, ◌∙◌}
 use Rattle.base.proofs.Putting.{to_write}

@@ -1,5 +1,4 @@
 -- `spelling::put_text` meets its contract.
-use Prim.Native.Nat.{◌-◌}
 use mathlib.Core.Path.{refl, ap, ◌∙◌}
 use native.Mathlib.Omega.{arith}
 use lib.Seq.{take-length}

@@ -1,5 +1,4 @@
 -- `writer::put_rows` meets its contract.
-use Prim.Native.Nat.{◌-◌}
 use mathlib.Core.Path.{refl, ◌∙◌}
 use native.Mathlib.Omega.{arith}
 use Rattle.base.proofs.Putting.{to_write}
