@@ -1,60 +1,87 @@
-// What the programs share: lines written to a file descriptor, and a word of hexadecimal digits read.
-// The functions that write have no contract beyond safety: none can say what is written.
+// What the programs share: input read whole, lines written, and a word of hexadecimal digits read.
+// The functions that read and write have no contract beyond safety and what fits: none can say what comes or is written.
 #![tactic(auto)]
 
-ghost use Rattle.std.specs.Prelude.{◌≡◌};
+ghost use Rattle.std.specs.Prelude.{◌≡◌, ◌≤◌, length, IfOk};
 ghost use Rattle.console.specs.Word.{digit_of, word_of};
 
 use refusal::Refusal;
+use std::io::{Read, Result, Write};
 
-pub fn say(to: i32, text: &[u8]) {
-    io::write_all(to, text);
+// Reads until the buffer is full or the input ends, and answers how many bytes stand at its front.
+pub fn read_full<R: Read>(from: &mut R, buffer: &mut [u8]) -> Result<usize>
+    ensures { IfOk result (λ n. n ≤ length buffer.new) }
+{
+    let mut done = 0;
+    while done < buffer.len() {
+        let n = from.read(&mut buffer[done..])?;
+        if n == 0 {
+            return Ok(done);
+        }
+        done += n;
+    }
+    Ok(done)
 }
 
-pub fn decimal(to: i32, n: u64) {
-    io::print_decimal(to, n);
+pub fn say<W: Write>(to: &mut W, text: &[u8]) -> Result<()> {
+    to.write_all(text)
+}
+
+pub fn decimal<W: Write>(to: &mut W, n: u64) -> Result<()> {
+    let mut text = [0u8; 20];
+    let size = spelling::put_decimal(&mut text, 0, n);
+    if size <= 20 {
+        say(to, &text[..size])?;
+    }
+    Ok(())
+}
+
+// The digits of a number in lower-case hexadecimal, at least so many.
+pub fn hexadecimal<W: Write>(to: &mut W, n: u64, digits: usize) -> Result<()> {
+    let mut text = [0u8; 16];
+    let size = io::hex(n, digits, &mut text);
+    say(to, &text[..size])
 }
 
 // A tab and a number.
-pub fn field(to: i32, n: u64) {
-    say(to, b"\t");
-    decimal(to, n);
+pub fn field<W: Write>(to: &mut W, n: u64) -> Result<()> {
+    say(to, b"\t")?;
+    decimal(to, n)
 }
 
-pub fn signed(to: i32, v: i64) {
+pub fn signed<W: Write>(to: &mut W, v: i64) -> Result<()> {
     let mut text = [0u8; 20];
     let n = spelling::put_whole(&mut text, 0, v);
     if n <= 20 {
-        say(to, &text[..n]);
+        say(to, &text[..n])?;
     }
+    Ok(())
 }
 
-fn byte(to: i32, b: u8) {
+fn byte<W: Write>(to: &mut W, b: u8) -> Result<()> {
     let one = [b];
     let mut two = [0u8; 2];
     spelling::put_hex(&mut two, 0, &one);
-    say(to, &two);
+    say(to, &two)
 }
 
 // Two upper-case digits a byte.
-pub fn bytes(to: i32, part: &[u8]) {
-    let mut i = 0;
-    while i < part.len() {
-        byte(to, part[i]);
-        i += 1;
+pub fn bytes<W: Write>(to: &mut W, part: &[u8]) -> Result<()> {
+    for b in part {
+        byte(to, *b)?;
     }
+    Ok(())
 }
 
 // The line of a refusal: its number, place and tag.
-pub fn refused(to: i32, r: Refusal) {
+pub fn refused<W: Write>(to: &mut W, r: Refusal) -> Result<()> {
     let reason = r.reason;
-    say(to, b"refused");
-    field(to, refusal::number_of(reason));
-    field(to, r.place as u64);
-    field(to, r.tag);
-    say(to, b"\n");
+    say(to, b"refused")?;
+    field(to, refusal::number_of(reason))?;
+    field(to, r.place as u64)?;
+    field(to, r.tag)?;
+    say(to, b"\n")
 }
-
 // What a hexadecimal digit stands for, and 16 for any other byte.
 pub fn digit(byte: u8) -> u64
     ensures { result ≡ digit_of byte }

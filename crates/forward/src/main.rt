@@ -4,49 +4,64 @@
 #![tactic(auto)]
 
 use console::{Word, refused, say, word_of};
-use libc::{STDERR_FILENO, STDIN_FILENO, STDOUT_FILENO};
 use relay::Forwarding;
+use std::env::FillError;
+use std::io;
+use std::io::Write;
+use std::rt::Env;
 use tagset::TagSet;
 
 // One byte more than a packet may have, so that a longer one is seen to be too long.
-fn send(known: TagSet) {
+fn send(rt: &HostRuntime, known: TagSet) -> io::Result<()> {
     let mut packet = [0u8; 8193];
     let mut out = [0u8; 8192];
-    let n = io::read_full(STDIN_FILENO, &mut packet);
+    let n = console::read_full(&mut rt.stdin(), &mut packet)?;
     match relay::forward(known, &packet[..n], &mut out) {
-        Forwarding::Refused(r) => refused(STDERR_FILENO, r),
+        Forwarding::Refused(r) => refused(&mut rt.stderr(), r)?,
         Forwarding::Packet(sent) => {
             let size = sent.size;
             if size <= 8192 {
-                io::write_all(STDOUT_FILENO, &out[..size]);
+                rt.stdout().write_all(&out[..size])?;
             }
         }
+    }
+    Ok(())
+}
+
+// Whether there is an argument of this number, however long.
+fn has_argument(rt: &impl Env, n: usize) -> bool {
+    let mut text = [0u8; 1];
+    match rt.arg(n, &mut text) {
+        Ok(_) => true,
+        Err(FillError::NotPresent) => false,
+        Err(_) => true,
     }
 }
 
 // An argument of at most 16 digits: a longer one does not fit, and is none.
-fn argument(n: usize) -> Word {
+fn argument(rt: &impl Env, n: usize) -> Word {
     let mut text = [0u8; 16];
-    let length = os::arg(n, &mut text);
-    word_of(&text[..length])
+    match rt.arg(n, &mut text) {
+        Ok(length) => word_of(&text[..length]),
+        Err(_) => Word::Not,
+    }
 }
 
-fn main() {
-    let count = os::arg_count();
-    if count <= 1 {
-        send(TagSet { low: 6, high: 2 });
-        return;
+fn main(rt: HostRuntime) -> io::Result<()> {
+    if !has_argument(&rt, 1) {
+        return send(&rt, TagSet { low: 6, high: 2 });
     }
-    if count == 3 {
-        if let Word::Is(low) = argument(1) {
-            if let Word::Is(high) = argument(2) {
-                send(TagSet { low, high });
-                return;
+    if has_argument(&rt, 2) {
+        if !has_argument(&rt, 3) {
+            if let Word::Is(low) = argument(&rt, 1) {
+                if let Word::Is(high) = argument(&rt, 2) {
+                    return send(&rt, TagSet { low, high });
+                }
             }
         }
     }
     say(
-        STDERR_FILENO,
+        &mut rt.stderr(),
         b"forward: the arguments are none, or two words in hexadecimal of at most 16 digits\n",
-    );
+    )
 }

@@ -1,21 +1,23 @@
 // Lists the packet on standard input for a person: place, tag, kind and value of each item, or the refusal.
 #![tactic(auto)]
 
-use libc::{STDERR_FILENO, STDIN_FILENO, STDOUT_FILENO};
 use listing::{LARGEST, Listing};
+use std::io;
+use std::io::Write;
 
 // One byte more than a packet may have, so that a longer one is seen to be too long.
-fn main() {
+fn main(rt: HostRuntime) -> io::Result<()> {
     let mut packet = [0u8; 8193];
     let mut out = [0u8; LARGEST];
-    let n = io::read_full(STDIN_FILENO, &mut packet);
+    let n = console::read_full(&mut rt.stdin(), &mut packet)?;
     match listing::list(&packet[..n], &mut out) {
-        Listing::Refused(refusal) => console::refused(STDERR_FILENO, refusal),
+        Listing::Refused(refusal) => console::refused(&mut rt.stderr(), refusal)?,
         Listing::Lines(listed) => {
             let size = listed.size;
             if size <= LARGEST {
-                io::write_all(STDOUT_FILENO, &out[..size]);
+                rt.stdout().write_all(&out[..size])?;
             }
         }
     }
+    Ok(())
 }

@@ -1,28 +1,29 @@
 // The leaves: tags and lengths, checksums, the catalogue's shapes, knowing sets.
 use crate::text::newline;
 use catalogue::Shape;
-use console::{decimal, say};
-use libc::STDOUT_FILENO;
+use console::{decimal, hexadecimal, say};
+use std::io;
+use std::io::Stdout;
 
-fn line(n: u64) {
-    decimal(STDOUT_FILENO, n);
-    newline();
+fn line(to: &mut Stdout, n: u64) -> io::Result<()> {
+    decimal(to, n)?;
+    newline(to)
 }
 
 // A number and how many bytes it took, or that it is broken.
-fn show(field: ber::Field) {
+fn show(to: &mut Stdout, field: ber::Field) -> io::Result<()> {
     match field {
         ber::Field::Is { value, size } => {
-            decimal(STDOUT_FILENO, value);
-            say(STDOUT_FILENO, b" in ");
-            line(size as u64);
+            decimal(to, value)?;
+            say(to, b" in ")?;
+            line(to, size as u64)
         }
-        ber::Field::Broken => say(STDOUT_FILENO, b"broken\n"),
+        ber::Field::Broken => say(to, b"broken\n"),
     }
 }
 
 // The bytes of a tag or of a length: the first of a room of eight.
-fn put(kind: u8, value: u64) {
+fn put(to: &mut Stdout, kind: u8, value: u64) -> io::Result<()> {
     let mut out = [0u8; 8];
     let n = if kind == b'T' {
         ber::put_tag(&mut out, 0, value)
@@ -32,57 +33,57 @@ fn put(kind: u8, value: u64) {
     let mut i = 0;
     while i < 8 {
         if i < n {
-            io::print_hex(STDOUT_FILENO, number::wide(out[i]), 2);
+            hexadecimal(to, number::wide(out[i]), 2)?;
         }
         i += 1;
     }
-    newline();
+    newline(to)
 }
 
-fn number_of(least: usize, most: usize, marked: bool) {
-    say(STDOUT_FILENO, b" number of ");
-    decimal(STDOUT_FILENO, least as u64);
+fn number_of(to: &mut Stdout, least: usize, most: usize, marked: bool) -> io::Result<()> {
+    say(to, b" number of ")?;
+    decimal(to, least as u64)?;
     if least < most {
-        say(STDOUT_FILENO, b" to ");
-        decimal(STDOUT_FILENO, most as u64);
+        say(to, b" to ")?;
+        decimal(to, most as u64)?;
     }
     if marked {
-        say(STDOUT_FILENO, b" with a mark");
+        say(to, b" with a mark")?;
     }
+    Ok(())
 }
 
-fn shape(tag: u64) {
+fn shape(to: &mut Stdout, tag: u64) -> io::Result<()> {
     let column = catalogue::shapes();
-    decimal(STDOUT_FILENO, tag);
+    decimal(to, tag)?;
     match catalogue::shape_at(&column, tag) {
-        Shape::Text => say(STDOUT_FILENO, b" text"),
+        Shape::Text => say(to, b" text")?,
         Shape::Number {
             least,
             most,
             marked,
-        } => number_of(least, most, marked),
-        Shape::Absent => say(STDOUT_FILENO, b" carried"),
+        } => number_of(to, least, most, marked)?,
+        Shape::Absent => say(to, b" carried")?,
     }
-    newline();
+    newline(to)
 }
 
-fn answer(yes: bool) {
+fn answer(to: &mut Stdout, yes: bool) -> io::Result<()> {
     if yes {
-        say(STDOUT_FILENO, b"yes\n");
-    } else {
-        say(STDOUT_FILENO, b"no\n");
+        return say(to, b"yes\n");
     }
+    say(to, b"no\n")
 }
 
-pub fn run(kind: u8, words: &[u64; 16], bytes: &[u8]) {
+pub fn run(to: &mut Stdout, kind: u8, words: &[u64; 16], bytes: &[u8]) -> io::Result<()> {
     let first = words[0];
     match kind {
-        b't' => show(ber::tag_at(bytes, first as usize)),
-        b'l' => show(ber::length_at(bytes, first as usize)),
-        b'T' | b'L' => put(kind, first),
-        b's' => line(checksum::checksum(bytes) as u64),
-        b'i' => shape(first),
-        b'k' => answer(knowing::is_good(crate::known_of(words))),
-        _ => answer(tagset::has(crate::known_of(words), words[2])),
+        b't' => show(to, ber::tag_at(bytes, first as usize)),
+        b'l' => show(to, ber::length_at(bytes, first as usize)),
+        b'T' | b'L' => put(to, kind, first),
+        b's' => line(to, checksum::checksum(bytes) as u64),
+        b'i' => shape(to, first),
+        b'k' => answer(to, knowing::is_good(crate::known_of(words))),
+        _ => answer(to, tagset::has(crate::known_of(words), words[2])),
     }
 }

@@ -28,7 +28,7 @@
 // The input has at most 131,072 bytes, a list at most 8,200 entries.
 #![tactic(auto)]
 
-ghost use Rattle.std.specs.Prelude.{◌≡◌, ◌<◌, ◌≤◌, length};
+ghost use Rattle.std.specs.Prelude.{◌≡◌, ◌<◌, ◌≤◌, length, IfOk};
 
 mod conversions;
 mod grounds;
@@ -38,7 +38,8 @@ mod readings;
 mod text;
 
 use console::{Word, word_of};
-use libc::STDIN_FILENO;
+use std::io;
+use std::io::Stdout;
 use tagset::TagSet;
 
 // The first place from here on that holds a byte of this range; else the end.
@@ -184,31 +185,50 @@ pub fn known_of(words: &[u64; 16]) -> TagSet {
 }
 
 // Reads into the beginning of the table that is kept.
-fn read_into(table: &mut [u64], words: &[u64; 16], packet: &[u8]) {
+fn read_into(
+    to: &mut Stdout,
+    table: &mut [u64],
+    words: &[u64; 16],
+    packet: &[u8],
+) -> io::Result<()> {
     let end = words[2] as usize;
     if end <= table.len() {
-        readings::answered(reader::read(packet, known_of(words), &mut table[..end]));
+        readings::answered(to, reader::read(packet, known_of(words), &mut table[..end]))?;
     }
+    Ok(())
 }
 
 // Runs a case on its words, its list of words, its list of bytes, and the table that is kept.
-fn run(kind: u8, words: &[u64; 16], list: &[u64], bytes: &[u8], table: &mut [u64]) {
+fn run(
+    to: &mut Stdout,
+    kind: u8,
+    words: &[u64; 16],
+    list: &[u64],
+    bytes: &[u8],
+    table: &mut [u64],
+) -> io::Result<()> {
     match kind {
-        b'=' | b'/' => (),
-        b'#'..=b'%' => outputs::run(kind, words, list, bytes),
-        b'&' => grounds::walk(words, bytes),
-        b'@' => grounds::run(words, bytes),
-        b'<' | b'>' => conversions::run(kind, words),
-        b'r' => read_into(table, words, bytes),
-        b'?' | b'w' | b'y' | b'z' => readings::run(kind, words, list, bytes, table),
-        _ => leaves::run(kind, words, bytes),
+        b'=' | b'/' => Ok(()),
+        b'#'..=b'%' => outputs::run(to, kind, words, list, bytes),
+        b'&' => grounds::walk(to, words, bytes),
+        b'@' => grounds::run(to, words, bytes),
+        b'<' | b'>' => conversions::run(to, kind, words),
+        b'r' => read_into(to, table, words, bytes),
+        b'?' | b'w' | b'y' | b'z' => readings::run(to, kind, words, list, bytes, table),
+        _ => leaves::run(to, kind, words, bytes),
     }
 }
 
 // The words and lists of a case, and the place after them.
-fn given(kind: u8, input: &[u8], from: usize, table: &mut [u64]) -> usize
+fn given(
+    to: &mut Stdout,
+    kind: u8,
+    input: &[u8],
+    from: usize,
+    table: &mut [u64],
+) -> io::Result<usize>
     requires { from ≤ length input.now }
-    ensures { (from ≤ result) × (result ≤ length input.now) }
+    ensures { IfOk result (λ next. (from ≤ next) × (next ≤ length input.now)) }
 {
     let form = form_of(kind);
     let mut words = [0u64; 16];
@@ -219,40 +239,41 @@ fn given(kind: u8, input: &[u8], from: usize, table: &mut [u64]) -> usize
     let part = bytes_lent(input, list.next, 32 <= form, &mut bytes);
     let count = list.count;
     let held = part.count;
-    run(kind, &words, &wide[..count], &bytes[..held], table);
-    part.next
+    run(to, kind, &words, &wide[..count], &bytes[..held], table)?;
+    Ok(part.next)
 }
 
 // Writes the title of a case that has one, and answers where its words begin.
-fn titled(kind: u8, input: &[u8], at: usize) -> usize
+fn titled(to: &mut Stdout, kind: u8, input: &[u8], at: usize) -> io::Result<usize>
     requires { at < length input.now }
-    ensures { (at < result) × (result ≤ length input.now) }
+    ensures { IfOk result (λ from. (at < from) × (from ≤ length input.now)) }
 {
     let from = at + 1;
     let end = place_of(input, from, b'\n', b'\n');
     match kind {
-        b'/' => end,
+        b'/' => Ok(end),
         b'=' => {
-            text::line(&input[from..end]);
-            end
+            text::line(to, &input[from..end])?;
+            Ok(end)
         }
         b'#'..=b'&' | b'@' => {
-            text::line(&input[at..end]);
-            end
+            text::line(to, &input[at..end])?;
+            Ok(end)
         }
-        _ => from,
+        _ => Ok(from),
     }
 }
 
-fn cases(input: &[u8]) {
+fn cases(to: &mut Stdout, input: &[u8]) -> io::Result<()> {
     let mut table = readings::sevens();
     let mut at = word_start(input, 0);
     while at < input.len() {
         let kind = input[at];
-        let from = titled(kind, input, at);
-        let next = given(kind, input, from, &mut table);
+        let from = titled(to, kind, input, at)?;
+        let next = given(to, kind, input, from, &mut table)?;
         at = word_start(input, next);
     }
+    Ok(())
 }
 
 // Room for the input.
@@ -262,8 +283,8 @@ fn space() -> [u8; 131072]
     [0; 131072]
 }
 
-fn main() {
+fn main(rt: HostRuntime) -> io::Result<()> {
     let mut input = space();
-    let n = io::read_full(STDIN_FILENO, &mut input);
-    cases(&input[..n]);
+    let n = console::read_full(&mut rt.stdin(), &mut input)?;
+    cases(&mut rt.stdout(), &input[..n])
 }

@@ -3,9 +3,10 @@ ghost use Rattle.std.specs.Prelude.{◌≤◌};
 
 use crate::text::{hexadecimal, sized};
 use console::refused;
-use libc::STDOUT_FILENO;
 use listing::Listing;
 use rows::{Part, Row};
+use std::io;
+use std::io::Stdout;
 use writer::Writing;
 
 // The part of an output that a case asks for. A case that asks for more than there is gets it all.
@@ -24,17 +25,17 @@ fn size_of(kind: u8, words: &[u64; 16]) -> u64 {
     words[2]
 }
 
-fn packed(answer: Writing) {
+fn packed(to: &mut Stdout, answer: Writing) -> io::Result<()> {
     match answer {
-        Writing::Packet(packet) => sized(b"packet", packet.size),
-        Writing::Refused(r) => refused(STDOUT_FILENO, r),
+        Writing::Packet(packet) => sized(to, b"packet", packet.size),
+        Writing::Refused(r) => refused(to, r),
     }
 }
 
-fn listed(answer: Listing) {
+fn listed(to: &mut Stdout, answer: Listing) -> io::Result<()> {
     match answer {
-        Listing::Lines(lines) => sized(b"listing", lines.size),
-        Listing::Refused(r) => refused(STDOUT_FILENO, r),
+        Listing::Lines(lines) => sized(to, b"listing", lines.size),
+        Listing::Refused(r) => refused(to, r),
     }
 }
 
@@ -53,25 +54,43 @@ fn record_of(words: &[u64; 16], at: usize) -> Row
     }
 }
 
-fn recorded(words: &[u64; 16], buffer: &[u8], out: &mut [u8]) {
+fn recorded(to: &mut Stdout, words: &[u64; 16], buffer: &[u8], out: &mut [u8]) -> io::Result<()> {
     let a = record_of(words, 3);
     let b = record_of(words, 7);
     let c = record_of(words, 11);
     let known = crate::known_of(words);
-    packed(records::write_three(known, [a, b, c], buffer, out));
+    packed(to, records::write_three(known, [a, b, c], buffer, out))
 }
 
-fn put(kind: u8, words: &[u64; 16], rows: &[u64], bytes: &[u8], out: &mut [u8]) {
+fn put(
+    to: &mut Stdout,
+    kind: u8,
+    words: &[u64; 16],
+    rows: &[u64],
+    bytes: &[u8],
+    out: &mut [u8],
+) -> io::Result<()> {
     match kind {
-        b'#' => packed(writer::write(crate::known_of(words), words[3] as usize, rows, bytes, out)),
-        b'$' => recorded(words, bytes, out),
-        _ => listed(listing::list(bytes, out)),
+        b'#' => {
+            packed(
+                to,
+                writer::write(crate::known_of(words), words[3] as usize, rows, bytes, out),
+            )
+        }
+        b'$' => recorded(to, words, bytes, out),
+        _ => listed(to, listing::list(bytes, out)),
     }
 }
 
-pub fn run(kind: u8, words: &[u64; 16], rows: &[u64], bytes: &[u8]) {
+pub fn run(
+    to: &mut Stdout,
+    kind: u8,
+    words: &[u64; 16],
+    rows: &[u64],
+    bytes: &[u8],
+) -> io::Result<()> {
     let mut whole = crate::filled();
     let out = room(&mut whole, size_of(kind, words));
-    put(kind, words, rows, bytes, out);
-    hexadecimal(out);
+    put(to, kind, words, rows, bytes, out)?;
+    hexadecimal(to, out)
 }

