@@ -2,11 +2,11 @@
  * Oysterknoll: MISB ST 0601 packets, the metadata that travels with drone video, read, judged, built and sent on.
  *
  * The functions are those of a proved library, an archive of machine code for Linux on x86-64 (System V calling convention). Make it
- * with "rt staticlib oysterknoll" at the root of the repository and link it:
+ * with "scripts/archive" at the root of the repository and link it:
  *
  *     cc -std=c99 -Iinclude program.c target/staticlib/liboysterknoll.a
  *
- * On Arm (aarch64) make it with "scripts/archive" and link target/staticlib/aarch64/liboysterknoll.a: the same proved source and the
+ * On Arm (aarch64) link target/staticlib/aarch64/liboysterknoll.a, which "scripts/archive" makes beside it: the same proved source and the
  * same calls, compiled by another back end of LLVM.
  *
  * What each function answers is defined in the project's scope paper ("document 01") and its change requests ("document 02"), and proved of

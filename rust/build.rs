@@ -12,8 +12,8 @@ fn main() {
     println!("cargo:rerun-if-changed={}", archive.display());
     if !archive.is_file() {
         stop(&format!(
-            "there is no {}. Make it at the root of the repository, with `rt staticlib oysterknoll` for x86-64 and with \
-             `scripts/archive` for Arm too, or name its folder in OYSTERKNOLL_LIB_DIR",
+            "there is no {}. Make it at the root of the repository with `scripts/archive`, or name its folder in \
+             OYSTERKNOLL_LIB_DIR",
             archive.display()
         ));
     }

@@ -12,21 +12,15 @@ quietly() {
     rm "$log"
 }
 
-# Proves and builds the programs named.
+# Proves and builds the programs named: rt builds a program where it runs it, here on no input.
 build() {
-    quietly rt check "$@"
+    local program
+    for program; do
+        (cd "crates/$program" && quietly rt run </dev/null) || return 1
+    done
 }
 
-# Where the kit is.
-kit_folder() {
-    realpath "${RATTLE_HOME:-$(dirname "$(dirname "$(readlink -f "$(command -v rt)")")")}"
-}
-
-# Starts a built program as rt does: under the kit's loader, and where the processor is another than x86-64 under its emulator.
+# Starts a built program.
 start() {
-    local tools program
-    tools=$(kit_folder)/on/$(uname -m)/toolchain
-    program=("$tools/lib/ld-linux-x86-64.so.2" --library-path "$tools/lib" "target/bin/$1")
-    [ ! -x "$tools/bin/qemu-x86_64" ] || program=("$tools/bin/qemu-x86_64" "${program[@]}")
-    "${program[@]}" "${@:2}"
+    "crates/$1/out/$1" "${@:2}"
 }

@@ -151,7 +151,8 @@ module _ (K : TagSet) (p t : List ℕ) (g : good K ≡ true) (long : 512 ≤ len
   table_given is e = rw (lent-verdict, e)
 
   -- who has a good set and a table of at least 512 words reads every packet that is allowed
-  pub allowed_read : (is : List Item) → Allowed (holds K) p is → (read_answer K p t ≡ given (filled_by (holds K) is)) × (read_table K p t ≡ table_of (holds K) is t)
+  pub allowed_read : (is : List Item) → Allowed (holds K) p is
+      → (read_answer K p t ≡ given (filled_by (holds K) is)) × (read_table K p t ≡ table_of (holds K) is t)
   allowed_read is a = let e = allowed_accepted (holds K) p is a in (answer_given is e, table_given is e)
 
   answer_refused : (n a u : ℕ) → read_answer K p t ≡ refused n a u → verdict (holds K) p ≡ refused n a u

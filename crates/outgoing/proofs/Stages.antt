@@ -153,7 +153,8 @@ module _ (K : TagSet) (w : Words K) (b : List ℕ) where
       (λ l. ap (code_allowed r.tag n) (limited_code r g k l some))
       (λ l. codes_free r.tag n r.code l ∙ sym (codes_free r.tag n _ l)))
 
-  same_fault : (seen : TagSet) (ts : List ℕ) (r : RowWords) → Good r → SeenBy seen ts → row_fault K seen r ≡ fault_of (holds K) (among ts) (piece_of (holds K) b r)
+  same_fault : (seen : TagSet) (ts : List ℕ) (r : RowWords) → Good r → SeenBy seen ts
+      → row_fault K seen r ≡ fault_of (holds K) (among ts) (piece_of (holds K) b r)
   unfolding row_fault fault_of piece_of
   same_fault seen ts r g s =
       by_lt r.tag 128

@@ -147,7 +147,10 @@ module _ (p : List ℕ) (by : Bytes p) (from : ℕ) (inside : from ≤ length p)
       by_bool (eqb g.size 0) (λ z. rw z (omega arith)) (λ z. rw z (by_bool (is_extended g.tag)
       (λ x. rw x (omega (arith, lies.inside)))
       (λ x. rw x lies.inside))) in
-      places_in (set l (one_byte g.tag) (found_at g.tag g.place (length (take g.size (drop g.place p))))) is rest (record { inside = λ t. set_within l _ _ (length p) t (rw size found) h.inside })
+      places_in (set l (one_byte g.tag) (found_at g.tag g.place (length (take g.size (drop g.place p))))) is rest (record {
+        inside =
+            λ t. set_within l _ _ (length p) t (rw size found) h.inside;
+      })
 
 module _ (K : TagSet) (words : Words K) (p : List ℕ) (by : Bytes p) (from : ℕ) (k : Kept) (w : Whole K p from k) where
   -- before the first item
@@ -205,7 +208,8 @@ module _ (K : TagSet) (words : Words K) (p : List ℕ) (by : Bytes p) (from : �
   abbrev pub walked_answer : Answer (List Item)
   walked_answer = then (closed p w.items) (judged (holds K))
 
-  pub by_items : map (body_of (holds K)) (then (walk 128 from (drop from p)) (λ is. then (closed p is) (judged (holds K)))) ≡ map (body_of (holds K)) walked_answer
+  pub by_items : map (body_of (holds K)) (then (walk 128 from (drop from p)) (λ is.
+      then (closed p is) (judged (holds K)))) ≡ map (body_of (holds K)) walked_answer
   by_items = rw w.walked
 
   pub by_right : right_from K p from ≡ bare walked_answer
@@ -281,7 +285,8 @@ received_begun K p = by_bool (good K) (λ e. rw e (go (frame p))) (λ e. rw e)
 
 pub checked_begun : (K : TagSet) (p : List ℕ) (a : Answer ℕ) → begun_by K p ≡ a → checked K p ≡ then a (λ from. map (body_of (holds K)) (items_from K p from))
 unfolding checked
-checked_begun K p a e = ap (map (body_of (holds K))) (received_begun K p ∙ ap (λ x. then x (items_from K p)) e) ∙ map_then (body_of (holds K)) a (items_from K p)
+checked_begun K p a e = ap (map (body_of (holds K))) (received_begun K p ∙ ap (λ x. then x (items_from K p)) e)
+    ∙ map_then (body_of (holds K)) a (items_from K p)
 
 -- a packet of a right frame
 pub begins : (K : TagSet) (p : List ℕ) (from : ℕ) → begun_by K p ≡ given from → Begins K p from no_places

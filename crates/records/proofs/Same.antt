@@ -353,7 +353,8 @@ good_at K b k (suc n) w g j l m =
     (λ same. subst (λ i. GoodRow K b (row_at w i)) same g.0)
     (λ other. good_at K b (suc k) n w g.1 j (omega (arith, l, other)) (omega (arith, m)))
 
-pub good_taken_out : (K : TagSet) (b : List ℕ) (n : ℕ) (w : List ℕ) → good K ≡ true → count_good n (length w) ≡ true → Each (GoodRow (holds K) b) (rows_in 0 n w)
+pub good_taken_out : (K : TagSet) (b : List ℕ) (n : ℕ) (w : List ℕ) → good K ≡ true → count_good n (length w) ≡ true
+    → Each (GoodRow (holds K) b) (rows_in 0 n w)
     → TakenOut K (length b) w (taken_from 0 n w)
 unfolding row_taken_at
 good_taken_out K b n w s c g = record {

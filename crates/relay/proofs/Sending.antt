@@ -111,7 +111,8 @@ module _ (K : TagSet) (p : List ℕ) where
   pub forward_refused : (o : List ℕ) (n a u : ℕ) → checked K p ≡ refused n a u → (r : Forwarding) → forward_said r ≡ refused n a u → Forwards K p o r o
   unfolding checked read_answer forward_answer forward_output
   forward_refused o n a u e r s =
-      let f : read_answer K p own_table ≡ refused n a u = ap (map (filled_by (holds K))) (own_received ∙ map_refused (body_of (holds K)) (received K p) n a u e) in
+      let f : read_answer K p own_table ≡ refused n a u =
+      ap (map (filled_by (holds K))) (own_received ∙ map_refused (body_of (holds K)) (received K p) n a u e) in
       record { answer = s ∙ sym (rw f); output = sym (rw f) }
 
   module _ (by : Bytes p) where

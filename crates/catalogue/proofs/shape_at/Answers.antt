@@ -16,12 +16,18 @@ returns-then-tag-ge128 c = rw ((let plain : is_extended c.args.tag ≡ false = s
 
 pub returns-then-kind-eq4 : goal.returns-then-kind-eq4
 unfolding shape_in
-returns-then-kind-eq4 c = let w = c in rw ((let plain : is_extended w.args.tag ≡ false = sym w.is_extended.ensures ∙ w.if-is_extended.false in plain), ← w.wide-byte.ensures.0) (search cases)
+returns-then-kind-eq4 c = let w = c in
+    rw ((let plain : is_extended w.args.tag ≡ false = sym w.is_extended.ensures ∙ w.if-is_extended.false in plain), ← w.wide-byte.ensures.0) (search cases)
 
 pub returns-then-kind-eq3 : goal.returns-then-kind-eq3
 unfolding shape_in
-returns-then-kind-eq3 c = let w = c in rw ((let plain : is_extended w.args.tag ≡ false = sym w.is_extended.ensures ∙ w.if-is_extended.false in plain), ← w.wide-byte.ensures.0) (search cases)
+returns-then-kind-eq3 c = let w = c in
+    rw ((let plain : is_extended w.args.tag ≡ false = sym w.is_extended.ensures ∙ w.if-is_extended.false in plain), ← w.wide-byte.ensures.0) (search cases)
 
 pub returns : goal.returns
 unfolding shape_in
-returns c = let w = c in rw ((let plain : is_extended w.args.tag ≡ false = sym w.is_extended.ensures ∙ w.if-is_extended.false in plain), ← w.wide-byte.ensures.0) (search cases)
+returns c = let w = c in rw (
+  (let plain : is_extended w.args.tag ≡ false = sym w.is_extended.ensures ∙ w.if-is_extended.false in
+      plain),
+  ← w.wide-byte.ensures.0,
+) (search cases)

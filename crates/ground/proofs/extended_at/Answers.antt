@@ -12,12 +12,20 @@ use Rattle.ground.proofs.extended_at.Goals as goal
 
 pub place_of-place-requires : goal.place_of-place-requires
 place_of-place-requires c =
-    let here : (place : ℕ) → place ≡ place_in c.args.known c.args.places.now c.args.tag → HeightStands c.args.packet.now c.args.tag place (value_for c.args.tag (rows_held c.args.known c.args.packet.now)) = (λ place e. let k = c in let bytes : Bytes k.args.packet.now = record { byte = λ i. (c.type_inv.packet i).fits } in let words : Words k.args.known = record { low64 = omega (arith, k.well_formed); high64 = omega (arith, k.well_formed) } in height_stands _ _ _ bytes words k.requires.0 _ k.requires.1 place e) in
+    let here : (place : ℕ) → place ≡ place_in c.args.known c.args.places.now c.args.tag
+    → HeightStands c.args.packet.now c.args.tag place (value_for c.args.tag (rows_held c.args.known c.args.packet.now)) =
+    (λ place e. let k = c in let bytes : Bytes k.args.packet.now = record { byte = λ i. (c.type_inv.packet i).fits } in
+    let words : Words k.args.known = record { low64 = omega (arith, k.well_formed); high64 = omega (arith, k.well_formed) } in
+    height_stands _ _ _ bytes words k.requires.0 _ k.requires.1 place e) in
     omega (arith, (here _ refl).before, c.well_formed)
 
 pub bounds-packet-place : goal.bounds-packet-place
 bounds-packet-place c =
-    let here : (place : ℕ) → place ≡ place_in c.args.known c.args.places.now c.args.tag → HeightStands c.args.packet.now c.args.tag place (value_for c.args.tag (rows_held c.args.known c.args.packet.now)) = (λ place e. let k = c in let bytes : Bytes k.args.packet.now = record { byte = λ i. (c.type_inv.packet i).fits } in let words : Words k.args.known = record { low64 = omega (arith, k.well_formed); high64 = omega (arith, k.well_formed) } in height_stands _ _ _ bytes words k.requires.0 _ k.requires.1 place e) in
+    let here : (place : ℕ) → place ≡ place_in c.args.known c.args.places.now c.args.tag
+    → HeightStands c.args.packet.now c.args.tag place (value_for c.args.tag (rows_held c.args.known c.args.packet.now)) =
+    (λ place e. let k = c in let bytes : Bytes k.args.packet.now = record { byte = λ i. (c.type_inv.packet i).fits } in
+    let words : Words k.args.known = record { low64 = omega (arith, k.well_formed); high64 = omega (arith, k.well_formed) } in
+    height_stands _ _ _ bytes words k.requires.0 _ k.requires.1 place e) in
     let p = c in
     omega (arith, (here _ p.place_of-place.ensures).before, c.if-place-gt0.true)
 
@@ -26,19 +34,31 @@ overflow_cast-length c = omega (arith, (c.type_inv.packet (c.place_of-place.resu
 
 pub overflow_add-end : goal.overflow_add-end
 overflow_add-end c =
-    let here : (place : ℕ) → place ≡ place_in c.args.known c.args.places.now c.args.tag → HeightStands c.args.packet.now c.args.tag place (value_for c.args.tag (rows_held c.args.known c.args.packet.now)) = (λ place e. let k = c in let bytes : Bytes k.args.packet.now = record { byte = λ i. (c.type_inv.packet i).fits } in let words : Words k.args.known = record { low64 = omega (arith, k.well_formed); high64 = omega (arith, k.well_formed) } in height_stands _ _ _ bytes words k.requires.0 _ k.requires.1 place e) in
+    let here : (place : ℕ) → place ≡ place_in c.args.known c.args.places.now c.args.tag
+    → HeightStands c.args.packet.now c.args.tag place (value_for c.args.tag (rows_held c.args.known c.args.packet.now)) =
+    (λ place e. let k = c in let bytes : Bytes k.args.packet.now = record { byte = λ i. (c.type_inv.packet i).fits } in
+    let words : Words k.args.known = record { low64 = omega (arith, k.well_formed); high64 = omega (arith, k.well_formed) } in
+    height_stands _ _ _ bytes words k.requires.0 _ k.requires.1 place e) in
     let p = c in
     omega (arith, (here _ p.place_of-place.ensures).inside c.if-place-gt0.true, p.well_formed)
 
 pub slice_bounds-value-end : goal.slice_bounds-value-end
 slice_bounds-value-end c =
-    let here : (place : ℕ) → place ≡ place_in c.args.known c.args.places.now c.args.tag → HeightStands c.args.packet.now c.args.tag place (value_for c.args.tag (rows_held c.args.known c.args.packet.now)) = (λ place e. let k = c in let bytes : Bytes k.args.packet.now = record { byte = λ i. (c.type_inv.packet i).fits } in let words : Words k.args.known = record { low64 = omega (arith, k.well_formed); high64 = omega (arith, k.well_formed) } in height_stands _ _ _ bytes words k.requires.0 _ k.requires.1 place e) in
+    let here : (place : ℕ) → place ≡ place_in c.args.known c.args.places.now c.args.tag
+    → HeightStands c.args.packet.now c.args.tag place (value_for c.args.tag (rows_held c.args.known c.args.packet.now)) =
+    (λ place e. let k = c in let bytes : Bytes k.args.packet.now = record { byte = λ i. (c.type_inv.packet i).fits } in
+    let words : Words k.args.known = record { low64 = omega (arith, k.well_formed); high64 = omega (arith, k.well_formed) } in
+    height_stands _ _ _ bytes words k.requires.0 _ k.requires.1 place e) in
     let p = c in
     (here _ p.place_of-place.ensures).inside c.if-place-gt0.true
 
 pub returns-then-place-gt0 : goal.returns-then-place-gt0
 returns-then-place-gt0 c =
-    let here : (place : ℕ) → place ≡ place_in c.args.known c.args.places.now c.args.tag → HeightStands c.args.packet.now c.args.tag place (value_for c.args.tag (rows_held c.args.known c.args.packet.now)) = (λ place e. let k = c in let bytes : Bytes k.args.packet.now = record { byte = λ i. (c.type_inv.packet i).fits } in let words : Words k.args.known = record { low64 = omega (arith, k.well_formed); high64 = omega (arith, k.well_formed) } in height_stands _ _ _ bytes words k.requires.0 _ k.requires.1 place e) in
+    let here : (place : ℕ) → place ≡ place_in c.args.known c.args.places.now c.args.tag
+    → HeightStands c.args.packet.now c.args.tag place (value_for c.args.tag (rows_held c.args.known c.args.packet.now)) =
+    (λ place e. let k = c in let bytes : Bytes k.args.packet.now = record { byte = λ i. (c.type_inv.packet i).fits } in
+    let words : Words k.args.known = record { low64 = omega (arith, k.well_formed); high64 = omega (arith, k.well_formed) } in
+    height_stands _ _ _ bytes words k.requires.0 _ k.requires.1 place e) in
     let p = c in
     let x = c in
     let a = p.args in
@@ -49,5 +69,9 @@ returns-then-place-gt0 c =
 
 pub returns : goal.returns
 returns c =
-    let here : (place : ℕ) → place ≡ place_in c.args.known c.args.places.now c.args.tag → HeightStands c.args.packet.now c.args.tag place (value_for c.args.tag (rows_held c.args.known c.args.packet.now)) = (λ place e. let k = c in let bytes : Bytes k.args.packet.now = record { byte = λ i. (c.type_inv.packet i).fits } in let words : Words k.args.known = record { low64 = omega (arith, k.well_formed); high64 = omega (arith, k.well_formed) } in height_stands _ _ _ bytes words k.requires.0 _ k.requires.1 place e) in
+    let here : (place : ℕ) → place ≡ place_in c.args.known c.args.places.now c.args.tag
+    → HeightStands c.args.packet.now c.args.tag place (value_for c.args.tag (rows_held c.args.known c.args.packet.now)) =
+    (λ place e. let k = c in let bytes : Bytes k.args.packet.now = record { byte = λ i. (c.type_inv.packet i).fits } in
+    let words : Words k.args.known = record { low64 = omega (arith, k.well_formed); high64 = omega (arith, k.well_formed) } in
+    height_stands _ _ _ bytes words k.requires.0 _ k.requires.1 place e) in
     (here _ c.place_of-place.ensures).none c.if-place-gt0.false

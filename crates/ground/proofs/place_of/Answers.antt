@@ -12,13 +12,17 @@ use Rattle.ground.proofs.place_of.Goals as goal
 pub offset_bounds-places-at : goal.offset_bounds-places-at
 offset_bounds-places-at c =
     let known : holds c.args.known c.args.tag ≡ true = sym c.has.ensures ∙ c.if-has.true in
-    let below : c.args.tag < 128 = (let k = c in let words : Words k.args.known = record { low64 = omega (arith, k.well_formed); high64 = omega (arith, k.well_formed) } in by_lt k.args.tag 128 (λ h. h) (λ h. clash (sym (known) ∙ holds_none _ words _ h))) in
+    let below : c.args.tag < 128 =
+    (let k = c in let words : Words k.args.known = record { low64 = omega (arith, k.well_formed); high64 = omega (arith, k.well_formed) } in
+    by_lt k.args.tag 128 (λ h. h) (λ h. clash (sym (known) ∙ holds_none _ words _ h))) in
     let h = below in search rules
 
 pub bounds-places-at : goal.bounds-places-at
 bounds-places-at c =
     let known : holds c.args.known c.args.tag ≡ true = sym c.has.ensures ∙ c.if-has.true in
-    let below : c.args.tag < 128 = (let k = c in let words : Words k.args.known = record { low64 = omega (arith, k.well_formed); high64 = omega (arith, k.well_formed) } in by_lt k.args.tag 128 (λ h. h) (λ h. clash (sym (known) ∙ holds_none _ words _ h))) in
+    let below : c.args.tag < 128 =
+    (let k = c in let words : Words k.args.known = record { low64 = omega (arith, k.well_formed); high64 = omega (arith, k.well_formed) } in
+    by_lt k.args.tag 128 (λ h. h) (λ h. clash (sym (known) ∙ holds_none _ words _ h))) in
     below
 
 pub overflow_cast-result : goal.overflow_cast-result

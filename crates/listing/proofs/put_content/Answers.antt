@@ -73,14 +73,18 @@ returns-then-row-eq-WITHDRAWN c = wrote_as (withdrawn_content _ _ c.if-row-eq-WI
 pub put_word-value-requires-2 : goal.put_word-value-requires-2
 unfolding carried_word
 put_word-value-requires-2 c =
-    let carries : (let a = c.args in carried_word ++ hex (bytes_at a.packet.now a.row) ≡ content_text a.packet.now a.row) = (let text = c in let mark = text in carried_content _ _ mark.if-row-eq-READING.false mark.if-row-eq-MARK.false text.if-row-eq-TEXT.false c.if-row-eq-WITHDRAWN.false) in
+    let carries : (let a = c.args in carried_word ++ hex (bytes_at a.packet.now a.row) ≡ content_text a.packet.now a.row) =
+    (let text = c in let mark = text in
+    carried_content _ _ mark.if-row-eq-READING.false mark.if-row-eq-MARK.false text.if-row-eq-TEXT.false c.if-row-eq-WITHDRAWN.false) in
     let s = c in
     room_first _ (room_of (carries) s.requires.1)
 
 pub put_value-requires-2 : goal.put_value-requires-2
 unfolding carried_word
 put_value-requires-2 c =
-    let carries : (let a = c.args in carried_word ++ hex (bytes_at a.packet.now a.row) ≡ content_text a.packet.now a.row) = (let text = c in let mark = text in carried_content _ _ mark.if-row-eq-READING.false mark.if-row-eq-MARK.false text.if-row-eq-TEXT.false c.if-row-eq-WITHDRAWN.false) in
+    let carries : (let a = c.args in carried_word ++ hex (bytes_at a.packet.now a.row) ≡ content_text a.packet.now a.row) =
+    (let text = c in let mark = text in
+    carried_content _ _ mark.if-row-eq-READING.false mark.if-row-eq-MARK.false text.if-row-eq-TEXT.false c.if-row-eq-WITHDRAWN.false) in
     let s = c in
     let r = s.requires in
     (r.0, room_after c.put_word-value-2.ensures (room_of (carries) r.1))
@@ -88,6 +92,8 @@ put_value-requires-2 c =
 pub returns : goal.returns
 unfolding carried_word
 returns c =
-    let carries : (let a = c.args in carried_word ++ hex (bytes_at a.packet.now a.row) ≡ content_text a.packet.now a.row) = (let text = c in let mark = text in carried_content _ _ mark.if-row-eq-READING.false mark.if-row-eq-MARK.false text.if-row-eq-TEXT.false c.if-row-eq-WITHDRAWN.false) in
+    let carries : (let a = c.args in carried_word ++ hex (bytes_at a.packet.now a.row) ≡ content_text a.packet.now a.row) =
+    (let text = c in let mark = text in
+    carried_content _ _ mark.if-row-eq-READING.false mark.if-row-eq-MARK.false text.if-row-eq-TEXT.false c.if-row-eq-WITHDRAWN.false) in
     let s = c in
     wrote_as (carries) (wrote_then c.put_word-value-2.ensures c.put_value-2.ensures)

@@ -15,8 +15,11 @@ returns-then-has-2 c h = absurd (omega arith)
 
 pub returns-then-row-eq0 : goal.returns-then-row-eq0
 returns-then-row-eq0 c h =
-    let by_column : shape_in c.args.column.now c.args.row.tag ≡ shape_of c.args.row.tag = (let s = c in ap (λ l. shape_in l s.args.row.tag) s.requires ∙ shape_in_column s.args.row.tag) in
-    let plainly : (shape : Shape) (r : ℕ) → shape ≡ shape_of c.args.row.tag → PlainAs shape c.args.room c.args.row r → Plain c.args.known c.args.seen c.args.room c.args.row r = (λ shape r e p. known_plain _ _ _ _ _ e (sym c.has.ensures ∙ c.if-has.true) (sym c.has-then-has.ensures ∙ c.if-has-2.false) p) in
+    let by_column : shape_in c.args.column.now c.args.row.tag ≡ shape_of c.args.row.tag =
+    (let s = c in ap (λ l. shape_in l s.args.row.tag) s.requires ∙ shape_in_column s.args.row.tag) in
+    let plainly : (shape : Shape) (r : ℕ) → shape ≡ shape_of c.args.row.tag → PlainAs shape c.args.room c.args.row r
+    → Plain c.args.known c.args.seen c.args.room c.args.row r =
+    (λ shape r e p. known_plain _ _ _ _ _ e (sym c.has.ensures ∙ c.if-has.true) (sym c.has-then-has.ensures ∙ c.if-has-2.false) p) in
     let found = c in
     let first = found in
     plainly _ _ (found.shape_at-shape.ensures ∙ by_column) (c.known_size.ensures h)
@@ -26,21 +29,29 @@ height_size-requires c = sym c.is_extended.ensures ∙ c.if-is_extended.true
 
 pub returns-then-is_extended : goal.returns-then-is_extended
 returns-then-is_extended c h =
-    let plainly : (shape : Shape) (r : ℕ) → shape ≡ shape_of c.args.row.tag → PlainAs shape c.args.room c.args.row r → Plain c.args.known c.args.seen c.args.room c.args.row r = (λ shape r e p. known_plain _ _ _ _ _ e (sym c.has.ensures ∙ c.if-has.true) (sym c.has-then-has.ensures ∙ c.if-has-2.false) p) in
+    let plainly : (shape : Shape) (r : ℕ) → shape ≡ shape_of c.args.row.tag → PlainAs shape c.args.room c.args.row r
+    → Plain c.args.known c.args.seen c.args.room c.args.row r =
+    (λ shape r e p. known_plain _ _ _ _ _ e (sym c.has.ensures ∙ c.if-has.true) (sym c.has-then-has.ensures ∙ c.if-has-2.false) p) in
     plainly _ _ refl (c.height_size.ensures _ h)
 
 pub returns-in-Number : goal.returns-in-Number
 returns-in-Number c h =
-    let by_column : shape_in c.args.column.now c.args.row.tag ≡ shape_of c.args.row.tag = (let s = c in ap (λ l. shape_in l s.args.row.tag) s.requires ∙ shape_in_column s.args.row.tag) in
-    let plainly : (shape : Shape) (r : ℕ) → shape ≡ shape_of c.args.row.tag → PlainAs shape c.args.room c.args.row r → Plain c.args.known c.args.seen c.args.room c.args.row r = (λ shape r e p. known_plain _ _ _ _ _ e (sym c.has.ensures ∙ c.if-has.true) (sym c.has-then-has.ensures ∙ c.if-has-2.false) p) in
+    let by_column : shape_in c.args.column.now c.args.row.tag ≡ shape_of c.args.row.tag =
+    (let s = c in ap (λ l. shape_in l s.args.row.tag) s.requires ∙ shape_in_column s.args.row.tag) in
+    let plainly : (shape : Shape) (r : ℕ) → shape ≡ shape_of c.args.row.tag → PlainAs shape c.args.room c.args.row r
+    → Plain c.args.known c.args.seen c.args.room c.args.row r =
+    (λ shape r e p. known_plain _ _ _ _ _ e (sym c.has.ensures ∙ c.if-has.true) (sym c.has-then-has.ensures ∙ c.if-has-2.false) p) in
     let found = c in
     let first = found in
     plainly _ _ (sym c.in-Number.is ∙ (found.shape_at.ensures ∙ by_column)) (c.value_size.ensures h)
 
 pub returns-in-Text : goal.returns-in-Text
 returns-in-Text c h =
-    let by_column : shape_in c.args.column.now c.args.row.tag ≡ shape_of c.args.row.tag = (let s = c in ap (λ l. shape_in l s.args.row.tag) s.requires ∙ shape_in_column s.args.row.tag) in
-    let plainly : (shape : Shape) (r : ℕ) → shape ≡ shape_of c.args.row.tag → PlainAs shape c.args.room c.args.row r → Plain c.args.known c.args.seen c.args.room c.args.row r = (λ shape r e p. known_plain _ _ _ _ _ e (sym c.has.ensures ∙ c.if-has.true) (sym c.has-then-has.ensures ∙ c.if-has-2.false) p) in
+    let by_column : shape_in c.args.column.now c.args.row.tag ≡ shape_of c.args.row.tag =
+    (let s = c in ap (λ l. shape_in l s.args.row.tag) s.requires ∙ shape_in_column s.args.row.tag) in
+    let plainly : (shape : Shape) (r : ℕ) → shape ≡ shape_of c.args.row.tag → PlainAs shape c.args.room c.args.row r
+    → Plain c.args.known c.args.seen c.args.room c.args.row r =
+    (λ shape r e p. known_plain _ _ _ _ _ e (sym c.has.ensures ∙ c.if-has.true) (sym c.has-then-has.ensures ∙ c.if-has-2.false) p) in
     let found = c in
     let first = found in
     plainly _ _ (sym c.in-Text.is ∙ (found.shape_at.ensures ∙ by_column)) (c.known_size-in-Text.ensures h)

@@ -15,7 +15,8 @@ packet_size-packed-requires c =
 
 pub returns-then-packed-gt8192 : goal.returns-then-packed-gt8192
 returns-then-packed-gt8192 c =
-    let size_found : c.packet_size-packed.result ≡ packed_by (rows_size (rows_in 0 c.args.count c.args.words.now)) = c.packet_size-packed.ensures ∙ ap packed_by c.rows_size.ensures in
+    let size_found : c.packet_size-packed.result ≡ packed_by (rows_size (rows_in 0 c.args.count c.args.words.now)) =
+    c.packet_size-packed.ensures ∙ ap packed_by c.rows_size.ensures in
     let s = c in
     let a = s.args in
     let z = s.packet_size-packed.result in
@@ -24,7 +25,8 @@ returns-then-packed-gt8192 c =
 
 pub returns : goal.returns
 returns c =
-    let size_found : c.packet_size-packed.result ≡ packed_by (rows_size (rows_in 0 c.args.count c.args.words.now)) = c.packet_size-packed.ensures ∙ ap packed_by c.rows_size.ensures in
+    let size_found : c.packet_size-packed.result ≡ packed_by (rows_size (rows_in 0 c.args.count c.args.words.now)) =
+    c.packet_size-packed.ensures ∙ ap packed_by c.rows_size.ensures in
     let s = c in
     let a = s.args in
     let z = s.packet_size-packed.result in

@@ -28,30 +28,42 @@ pub overflow_add-place : goal.overflow_add-place
 overflow_add-place c =
     let bytes : Bytes c.args.packet.now = record { byte = λ i. (c.type_inv.packet i).fits } in
     let tagged : read_tag (drop c.args.at c.args.packet.now) ≡ got c.in-Is.tag c.in-Is.tag_size = sym c.tag_at.ensures ∙ ap seen c.in-Is.is in
-    let sized : (let a = c.args in read_length (drop (a.at + c.in-Is.tag_size) a.packet.now) ≡ got c.in-Is-length_at.length c.in-Is-length_at.length_size) = sym c.length_at.ensures ∙ ap seen c.in-Is-length_at.is in
-    let length_in : (let a = c.args in a.at + c.in-Is.tag_size + c.in-Is-length_at.length_size ≤ length a.packet.now) = (let a = c in (length_inside _ _ _ _ (tagged) _ _ (sized) (bytes)).1) in
+    let sized : (let a = c.args in
+    read_length (drop (a.at + c.in-Is.tag_size) a.packet.now) ≡ got c.in-Is-length_at.length c.in-Is-length_at.length_size) =
+    sym c.length_at.ensures ∙ ap seen c.in-Is-length_at.is in
+    let length_in : (let a = c.args in a.at + c.in-Is.tag_size + c.in-Is-length_at.length_size ≤ length a.packet.now) =
+    (let a = c in (length_inside _ _ _ _ (tagged) _ _ (sized) (bytes)).1) in
     omega (arith, length_in)
 
 pub overflow_sub-packet : goal.overflow_sub-packet
 overflow_sub-packet c =
     let bytes : Bytes c.args.packet.now = record { byte = λ i. (c.type_inv.packet i).fits } in
     let tagged : read_tag (drop c.args.at c.args.packet.now) ≡ got c.in-Is.tag c.in-Is.tag_size = sym c.tag_at.ensures ∙ ap seen c.in-Is.is in
-    let sized : (let a = c.args in read_length (drop (a.at + c.in-Is.tag_size) a.packet.now) ≡ got c.in-Is-length_at.length c.in-Is-length_at.length_size) = sym c.length_at.ensures ∙ ap seen c.in-Is-length_at.is in
-    let length_in : (let a = c.args in a.at + c.in-Is.tag_size + c.in-Is-length_at.length_size ≤ length a.packet.now) = (let a = c in (length_inside _ _ _ _ (tagged) _ _ (sized) (bytes)).1) in
+    let sized : (let a = c.args in
+    read_length (drop (a.at + c.in-Is.tag_size) a.packet.now) ≡ got c.in-Is-length_at.length c.in-Is-length_at.length_size) =
+    sym c.length_at.ensures ∙ ap seen c.in-Is-length_at.is in
+    let length_in : (let a = c.args in a.at + c.in-Is.tag_size + c.in-Is-length_at.length_size ≤ length a.packet.now) =
+    (let a = c in (length_inside _ _ _ _ (tagged) _ _ (sized) (bytes)).1) in
     length_in
 
 pub returns-then-packet-place : goal.returns-then-packet-place
 returns-then-packet-place c =
     let bytes : Bytes c.args.packet.now = record { byte = λ i. (c.type_inv.packet i).fits } in
     let tagged : read_tag (drop c.args.at c.args.packet.now) ≡ got c.in-Is.tag c.in-Is.tag_size = sym c.tag_at.ensures ∙ ap seen c.in-Is.is in
-    let sized : (let a = c.args in read_length (drop (a.at + c.in-Is.tag_size) a.packet.now) ≡ got c.in-Is-length_at.length c.in-Is-length_at.length_size) = sym c.length_at.ensures ∙ ap seen c.in-Is-length_at.is in
-    let length_in : (let a = c.args in a.at + c.in-Is.tag_size + c.in-Is-length_at.length_size ≤ length a.packet.now) = (let a = c in (length_inside _ _ _ _ (tagged) _ _ (sized) (bytes)).1) in
+    let sized : (let a = c.args in
+    read_length (drop (a.at + c.in-Is.tag_size) a.packet.now) ≡ got c.in-Is-length_at.length c.in-Is-length_at.length_size) =
+    sym c.length_at.ensures ∙ ap seen c.in-Is-length_at.is in
+    let length_in : (let a = c.args in a.at + c.in-Is.tag_size + c.in-Is-length_at.length_size ≤ length a.packet.now) =
+    (let a = c in (length_inside _ _ _ _ (tagged) _ _ (sized) (bytes)).1) in
     sym (past_the_end _ _ _ _ (tagged) _ _ (sized) (length_in) c.if-packet-place.true)
 
 pub returns : goal.returns
 returns c =
     let bytes : Bytes c.args.packet.now = record { byte = λ i. (c.type_inv.packet i).fits } in
     let tagged : read_tag (drop c.args.at c.args.packet.now) ≡ got c.in-Is.tag c.in-Is.tag_size = sym c.tag_at.ensures ∙ ap seen c.in-Is.is in
-    let sized : (let a = c.args in read_length (drop (a.at + c.in-Is.tag_size) a.packet.now) ≡ got c.in-Is-length_at.length c.in-Is-length_at.length_size) = sym c.length_at.ensures ∙ ap seen c.in-Is-length_at.is in
-    let length_in : (let a = c.args in a.at + c.in-Is.tag_size + c.in-Is-length_at.length_size ≤ length a.packet.now) = (let a = c in (length_inside _ _ _ _ (tagged) _ _ (sized) (bytes)).1) in
+    let sized : (let a = c.args in
+    read_length (drop (a.at + c.in-Is.tag_size) a.packet.now) ≡ got c.in-Is-length_at.length c.in-Is-length_at.length_size) =
+    sym c.length_at.ensures ∙ ap seen c.in-Is-length_at.is in
+    let length_in : (let a = c.args in a.at + c.in-Is.tag_size + c.in-Is-length_at.length_size ≤ length a.packet.now) =
+    (let a = c in (length_inside _ _ _ _ (tagged) _ _ (sized) (bytes)).1) in
     sym (one_item _ _ _ _ (tagged) _ _ (sized) (length_in) c.if-packet-place.false)

@@ -8,7 +8,9 @@ use Rattle.packet.proofs.close_glance_at.Goals as goal
 
 pub note-requires : goal.note-requires
 note-requires c =
-    let small_tag : c.any_glance_at-item.result.tag < 128 = (let g = c.any_glance_at-item.ensures in by_lt _ c.any_glance_at-item.result.past (λ h. clash (sym c.if-item.true ∙ (g.none h).1)) (λ h. rw (g.item h).same (short_tag (g.item h).header.tag))) in
+    let small_tag : c.any_glance_at-item.result.tag < 128 =
+    (let g = c.any_glance_at-item.ensures in
+    by_lt _ c.any_glance_at-item.result.past (λ h. clash (sym c.if-item.true ∙ (g.none h).1)) (λ h. rw (g.item h).same (short_tag (g.item h).header.tag))) in
     let s = c in (s.requires.1, s.requires.2, small_tag)
 
 pub returns-then-item : goal.returns-then-item

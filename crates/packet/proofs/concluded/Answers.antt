@@ -24,7 +24,8 @@ pub returns-then-is_clean : goal.returns-then-is_clean
 returns-then-is_clean c =
     let words : Words c.args.known = record { low64 = omega (arith, c.well_formed); high64 = omega (arith, c.well_formed) } in
     let bytes : Bytes c.args.packet.now = record { byte = λ i. (c.type_inv.packet i).fits } in
-    let ended : (let a = c.args in right_said c.closed.result ≡ closed_by a.packet.now a.from (header_in a.packet.now a.passed.last)) = c.closed.ensures ∙ ap (closed_by _ _) c.header_at.ensures in
+    let ended : (let a = c.args in right_said c.closed.result ≡ closed_by a.packet.now a.from (header_in a.packet.now a.passed.last)) =
+    c.closed.ensures ∙ ap (closed_by _ _) c.header_at.ensures in
     let d = c in
     let w = d.requires in
     sym (right_by _ (words) _ (bytes) _ _ w
@@ -38,7 +39,8 @@ pub returns-in-Refused : goal.returns-in-Refused
 returns-in-Refused c =
     let words : Words c.args.known = record { low64 = omega (arith, c.well_formed); high64 = omega (arith, c.well_formed) } in
     let bytes : Bytes c.args.packet.now = record { byte = λ i. (c.type_inv.packet i).fits } in
-    let ended : (let a = c.args in right_said c.closed.result ≡ closed_by a.packet.now a.from (header_in a.packet.now a.passed.last)) = c.closed.ensures ∙ ap (closed_by _ _) c.header_at.ensures in
+    let ended : (let a = c.args in right_said c.closed.result ≡ closed_by a.packet.now a.from (header_in a.packet.now a.passed.last)) =
+    c.closed.ensures ∙ ap (closed_by _ _) c.header_at.ensures in
     let d = c in
     let e = sym (ended) ∙ ap right_said c.in-Refused.is in
     sym (right_by _ (words) _ (bytes) _ _ d.requires ∙ rw e)
@@ -47,7 +49,8 @@ pub returns-else-is_clean : goal.returns-else-is_clean
 returns-else-is_clean c =
     let words : Words c.args.known = record { low64 = omega (arith, c.well_formed); high64 = omega (arith, c.well_formed) } in
     let bytes : Bytes c.args.packet.now = record { byte = λ i. (c.type_inv.packet i).fits } in
-    let ended : (let a = c.args in right_said c.closed.result ≡ closed_by a.packet.now a.from (header_in a.packet.now a.passed.last)) = c.closed.ensures ∙ ap (closed_by _ _) c.header_at.ensures in
+    let ended : (let a = c.args in right_said c.closed.result ≡ closed_by a.packet.now a.from (header_in a.packet.now a.passed.last)) =
+    c.closed.ensures ∙ ap (closed_by _ _) c.header_at.ensures in
     let d = c in
     let e = sym (ended) ∙ ap right_said c.in-Yes.is in
     c.judged.ensures ∙ sym (right_by _ (words) _ (bytes) _ _ d.requires ∙ rw e)

@@ -6,7 +6,11 @@ pub returns-then-is_found-2 : goal.returns-then-is_found-2
 returns-then-is_found-2 c =
     let second = c in
     let first = second in
-    rw (sym first.is_found.ensures ∙ first.if-is_found.true, sym second.is_found-then-is_found.ensures ∙ second.if-is_found-2.true) c.is_found-then-is_found-2.ensures
+    rw (
+      sym first.is_found.ensures ∙ first.if-is_found.true,
+      sym second.is_found-then-is_found.ensures
+          ∙ second.if-is_found-2.true,
+    ) c.is_found-then-is_found-2.ensures
 
 pub returns-else-is_found-2 : goal.returns-else-is_found-2
 returns-else-is_found-2 c =

@@ -21,7 +21,7 @@ pub fault_at-requires : goal.fault_at-requires
 fault_at-requires c =
     let found : header_at c.args.packet.now c.loop-here.here ≡ given c.in-Item.item = sym c.item_at.ensures ∙ ap step_said c.in-Item.is in
     let lies : Lies c.args.packet.now c.loop-here.here c.in-Item.item = header_lies _ _ (record { byte = λ i. (c.type_inv.packet i).fits }) _ (found) in
-    (c.shapes-column.ensures, (lies).inside)
+    (c.shapes-column.ensures, lies.inside)
 
 pub returns-in-Wrong : goal.returns-in-Wrong
 returns-in-Wrong c =
@@ -37,7 +37,7 @@ overflow_add-here c =
     let found : header_at c.args.packet.now c.loop-here.here ≡ given c.in-Item.item = sym c.item_at.ensures ∙ ap step_said c.in-Item.is in
     let lies : Lies c.args.packet.now c.loop-here.here c.in-Item.item = header_lies _ _ (record { byte = λ i. (c.type_inv.packet i).fits }) _ (found) in
     let f = c in
-    omega (arith, (lies).inside, f.well_formed)
+    omega (arith, lies.inside, f.well_formed)
 
 pub loop-here-smaller : goal.loop-here-smaller
 loop-here-smaller c =

@@ -20,7 +20,8 @@ loop-passed-init c =
 
 pub pass_plain-passed-requires : goal.pass_plain-passed-requires
 pass_plain-passed-requires c =
-    let known_words : TwoWords (c.args.known.low ∷ c.args.known.high ∷ []) = record { both = refl; low = omega (arith, c.well_formed); high = omega (arith, c.well_formed) } in
+    let known_words : TwoWords (c.args.known.low ∷ c.args.known.high ∷ []) =
+    record { both = refl; low = omega (arith, c.well_formed); high = omega (arith, c.well_formed) } in
     let l = c in
     let s = l in
     (l.length_masks-column.ensures, known_words, s.requires.0, l.loop-passed.invariant.1, s.requires.1, s.requires.2, l.loop-passed.invariant.0.counted)
@@ -50,7 +51,8 @@ returns-then-passed-eq128 c =
 
 pub close_glance_at-item-requires : goal.close_glance_at-item-requires
 close_glance_at-item-requires c =
-    let known_words : TwoWords (c.args.known.low ∷ c.args.known.high ∷ []) = record { both = refl; low = omega (arith, c.well_formed); high = omega (arith, c.well_formed) } in
+    let known_words : TwoWords (c.args.known.low ∷ c.args.known.high ∷ []) =
+    record { both = refl; low = omega (arith, c.well_formed); high = omega (arith, c.well_formed) } in
     let l = c in
     (l.length_masks-column.ensures, known_words, l.loop-passed.invariant.2)
 
@@ -70,8 +72,10 @@ returns-then-packet-item c =
 pub keep-passed-requires : goal.keep-passed-requires
 keep-passed-requires c =
     let bytes : Bytes c.args.packet.now = record { byte = λ i. (c.type_inv.packet i).fits } in
-    let known_words : TwoWords (c.args.known.low ∷ c.args.known.high ∷ []) = record { both = refl; low = omega (arith, c.well_formed); high = omega (arith, c.well_formed) } in
-    let seen : SeenAt c.args.packet.now c.pass_plain-passed.result.here c.close_glance_at-item.result = c.close_glance_at-item.ensures.seen.item c.if-packet-item.false in
+    let known_words : TwoWords (c.args.known.low ∷ c.args.known.high ∷ []) =
+    record { both = refl; low = omega (arith, c.well_formed); high = omega (arith, c.well_formed) } in
+    let seen : SeenAt c.args.packet.now c.pass_plain-passed.result.here c.close_glance_at-item.result =
+    c.close_glance_at-item.ensures.seen.item c.if-packet-item.false in
     let e = c in
     let p = e in
     let s = p in
@@ -94,7 +98,8 @@ keep-passed-requires c =
 pub loop-passed-smaller : goal.loop-passed-smaller
 loop-passed-smaller c =
     let bytes : Bytes c.args.packet.now = record { byte = λ i. (c.type_inv.packet i).fits } in
-    let seen : SeenAt c.args.packet.now c.pass_plain-passed.result.here c.close_glance_at-item.result = c.close_glance_at-item.ensures.seen.item c.if-packet-item.false in
+    let seen : SeenAt c.args.packet.now c.pass_plain-passed.result.here c.close_glance_at-item.result =
+    c.close_glance_at-item.ensures.seen.item c.if-packet-item.false in
     let e = c in
     let p = e in
     let on = (p.pass_plain-passed.ensures.going (set_of p.loop-passed.withdrawn)).on in
@@ -103,7 +108,8 @@ loop-passed-smaller c =
 pub loop-passed-preserved : goal.loop-passed-preserved
 loop-passed-preserved c =
     let bytes : Bytes c.args.packet.now = record { byte = λ i. (c.type_inv.packet i).fits } in
-    let known_words : TwoWords (c.args.known.low ∷ c.args.known.high ∷ []) = record { both = refl; low = omega (arith, c.well_formed); high = omega (arith, c.well_formed) } in
+    let known_words : TwoWords (c.args.known.low ∷ c.args.known.high ∷ []) =
+    record { both = refl; low = omega (arith, c.well_formed); high = omega (arith, c.well_formed) } in
     let e = c in
     let p = e in
     let s = p in

@@ -44,7 +44,8 @@ header_at-item-requires c = item_there _ _ _ _ _ _ c.loop-here.invariant.3 c.loo
 
 pub row_of-row-requires : goal.row_of-row-requires
 row_of-row-requires c =
-    let next : Next _ _ _ _ _ _ c.loop-here.invariant.3 c.loop-here-test.true c.header_at-item.result = next_item _ _ _ _ _ _ c.loop-here.invariant.3 c.loop-here-test.true _ c.header_at-item.ensures in
+    let next : Next _ _ _ _ _ _ c.loop-here.invariant.3 c.loop-here-test.true c.header_at-item.result =
+    next_item _ _ _ _ _ _ c.loop-here.invariant.3 c.loop-here-test.true _ c.header_at-item.ensures in
     let lies : Lies c.args.packet.now c.loop-here.here c.header_at-item.result = header_lies _ _ (bytes_lent c.type_inv.packet) _ c.header_at-item.ensures in
     let l = c.loop-here in
     let d = lies in
@@ -52,27 +53,29 @@ row_of-row-requires c =
       l.invariant.0,
       d.inside,
       l.invariant.2,
-      (next).narrow (value_length _ by c.header_at-item.result d.inside),
+      next.narrow (value_length _ by c.header_at-item.result d.inside),
       omega (arith, d.on, l.invariant.3.past),
     )
 
 pub put_row-requires : goal.put_row-requires
 put_row-requires c =
-    let next : Next _ _ _ _ _ _ c.loop-here.invariant.3 c.loop-here-test.true c.header_at-item.result = next_item _ _ _ _ _ _ c.loop-here.invariant.3 c.loop-here-test.true _ c.header_at-item.ensures in
+    let next : Next _ _ _ _ _ _ c.loop-here.invariant.3 c.loop-here-test.true c.header_at-item.result =
+    next_item _ _ _ _ _ _ c.loop-here.invariant.3 c.loop-here-test.true _ c.header_at-item.ensures in
     let l = c.loop-here in
-    let few = (next).one_left in
+    let few = next.one_left in
     (few, omega (arith, few, l.invariant.1, c.requires.1))
 
 pub overflow_add-here : goal.overflow_add-here
 overflow_add-here c =
     let lies : Lies c.args.packet.now c.loop-here.here c.header_at-item.result = header_lies _ _ (bytes_lent c.type_inv.packet) _ c.header_at-item.ensures in
     let d = c in
-    omega (arith, (lies).inside, d.loop-here.invariant.2)
+    omega (arith, lies.inside, d.loop-here.invariant.2)
 
 pub overflow_add-n : goal.overflow_add-n
 overflow_add-n c =
-    let next : Next _ _ _ _ _ _ c.loop-here.invariant.3 c.loop-here-test.true c.header_at-item.result = next_item _ _ _ _ _ _ c.loop-here.invariant.3 c.loop-here-test.true _ c.header_at-item.ensures in
-    omega (arith, (next).one_left)
+    let next : Next _ _ _ _ _ _ c.loop-here.invariant.3 c.loop-here-test.true c.header_at-item.result =
+    next_item _ _ _ _ _ _ c.loop-here.invariant.3 c.loop-here-test.true _ c.header_at-item.ensures in
+    omega (arith, next.one_left)
 
 pub loop-here-smaller : goal.loop-here-smaller
 loop-here-smaller c =
@@ -81,7 +84,8 @@ loop-here-smaller c =
 
 pub loop-here-preserved : goal.loop-here-preserved
 loop-here-preserved c =
-    let next : Next _ _ _ _ _ _ c.loop-here.invariant.3 c.loop-here-test.true c.header_at-item.result = next_item _ _ _ _ _ _ c.loop-here.invariant.3 c.loop-here-test.true _ c.header_at-item.ensures in
+    let next : Next _ _ _ _ _ _ c.loop-here.invariant.3 c.loop-here-test.true c.header_at-item.result =
+    next_item _ _ _ _ _ _ c.loop-here.invariant.3 c.loop-here-test.true _ c.header_at-item.ensures in
     let lies : Lies c.args.packet.now c.loop-here.here c.header_at-item.result = header_lies _ _ (bytes_lent c.type_inv.packet) _ c.header_at-item.ensures in
     let d = c in
     let l = d.loop-here in
@@ -89,7 +93,7 @@ loop-here-preserved c =
       l.invariant.0,
       put.auto.table ∙ l.invariant.1,
       l.invariant.2,
-      (next).left (lies).on _ (put.ensures ∙ ap (put_row l.table l.n) c.row_of-row.ensures),
+      next.left lies.on _ (put.ensures ∙ ap (put_row l.table l.n) c.row_of-row.ensures),
     )
 
 pub shape_of-table : goal.shape_of-table

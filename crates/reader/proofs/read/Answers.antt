@@ -18,7 +18,8 @@ fill-requires c =
     let known : good c.args.known ≡ true = sym c.is_good.ensures ∙ c.if-is_good.true in
     let room : 512 ≤ length c.args.table.now = c.if-table-lt512.false in
     let bytes : Bytes c.args.packet.now = record { byte = λ i. (c.type_inv.packet i).fits } in
-    let accepts : Taken c.args.known c.args.packet.now c.args.table.now (known) (room) c.in-Accepted.accepted = taken _ _ _ (known) (room) _ (sym c.check.ensures ∙ ap check_said c.in-Accepted.is) in
+    let accepts : Taken c.args.known c.args.packet.now c.args.table.now (known) (room) c.in-Accepted.accepted =
+    taken _ _ _ (known) (room) _ (sym c.check.ensures ∙ ap check_said c.in-Accepted.is) in
     (may_fill _ _ _ (known) (room) (bytes) _ (accepts), room)
 
 pub overflow_mul-count : goal.overflow_mul-count
@@ -26,7 +27,8 @@ overflow_mul-count c =
     let known : good c.args.known ≡ true = sym c.is_good.ensures ∙ c.if-is_good.true in
     let room : 512 ≤ length c.args.table.now = c.if-table-lt512.false in
     let bytes : Bytes c.args.packet.now = record { byte = λ i. (c.type_inv.packet i).fits } in
-    let accepts : Taken c.args.known c.args.packet.now c.args.table.now (known) (room) c.in-Accepted.accepted = taken _ _ _ (known) (room) _ (sym c.check.ensures ∙ ap check_said c.in-Accepted.is) in
+    let accepts : Taken c.args.known c.args.packet.now c.args.table.now (known) (room) c.in-Accepted.accepted =
+    taken _ _ _ (known) (room) _ (sym c.check.ensures ∙ ap check_said c.in-Accepted.is) in
     omega (
       arith,
       few _ _ _ (known) (room)
@@ -44,7 +46,8 @@ returns-in-Accepted c =
     let known : good c.args.known ≡ true = sym c.is_good.ensures ∙ c.if-is_good.true in
     let room : 512 ≤ length c.args.table.now = c.if-table-lt512.false in
     let bytes : Bytes c.args.packet.now = record { byte = λ i. (c.type_inv.packet i).fits } in
-    let accepts : Taken c.args.known c.args.packet.now c.args.table.now (known) (room) c.in-Accepted.accepted = taken _ _ _ (known) (room) _ (sym c.check.ensures ∙ ap check_said c.in-Accepted.is) in
+    let accepts : Taken c.args.known c.args.packet.now c.args.table.now (known) (room) c.in-Accepted.accepted =
+    taken _ _ _ (known) (room) _ (sym c.check.ensures ∙ ap check_said c.in-Accepted.is) in
     let d = c in
     filled _ _ _ (known) (room) (bytes) _ (accepts) _ _ c.fill.ensures
     c.clear.ensures

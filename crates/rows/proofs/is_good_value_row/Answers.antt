@@ -11,14 +11,29 @@ unfolding value_row_good
 returns-then-row-kind_of_value c =
     let kind = c in
     let tag = kind in
-    rw (sym tag.is_good_tag.ensures ∙ tag.if-is_good_tag.true, ← (let found : (let a = c.args in c.kind_of_value.result ≡ kind_of (value_as {A = Unit {0}} a.shape a.row.code (part_length a.row.part) tt)) = let a = c.args in c.kind_of_value.ensures ∙ kind_valued 0 tt (part_length a.row.part) tt a.shape a.row.code in found), eq-eqb _ _ c.if-row-kind_of_value.true) c.is_good_value.ensures
+    rw (
+      sym tag.is_good_tag.ensures
+          ∙ tag.if-is_good_tag.true,
+      ← (let found : (let a = c.args in
+          c.kind_of_value.result ≡ kind_of (value_as {A = Unit {0}} a.shape a.row.code (part_length a.row.part) tt)) = let a = c.args in
+          c.kind_of_value.ensures ∙ kind_valued 0 tt (part_length a.row.part) tt a.shape a.row.code in
+          found),
+      eq-eqb _ _ c.if-row-kind_of_value.true,
+    ) c.is_good_value.ensures
 
 pub returns-else-row-kind_of_value : goal.returns-else-row-kind_of_value
 unfolding value_row_good
 returns-else-row-kind_of_value c =
     let kind = c in
     let tag = kind in
-    rw (sym tag.is_good_tag.ensures ∙ tag.if-is_good_tag.true, ← (let found : (let a = c.args in c.kind_of_value.result ≡ kind_of (value_as {A = Unit {0}} a.shape a.row.code (part_length a.row.part) tt)) = let a = c.args in c.kind_of_value.ensures ∙ kind_valued 0 tt (part_length a.row.part) tt a.shape a.row.code in found), ne_eqb _ _ c.if-row-kind_of_value.false)
+    rw (
+      sym tag.is_good_tag.ensures
+          ∙ tag.if-is_good_tag.true,
+      ← (let found : (let a = c.args in
+          c.kind_of_value.result ≡ kind_of (value_as {A = Unit {0}} a.shape a.row.code (part_length a.row.part) tt)) = let a = c.args in
+          c.kind_of_value.ensures ∙ kind_valued 0 tt (part_length a.row.part) tt a.shape a.row.code in found),
+      ne_eqb _ _ c.if-row-kind_of_value.false,
+    )
 
 pub returns-else-is_good_tag : goal.returns-else-is_good_tag
 unfolding value_row_good

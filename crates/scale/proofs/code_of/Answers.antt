@@ -17,7 +17,9 @@ use Rattle.scale.proofs.code_of.Goals as goal
 pub apart-requires : goal.apart-requires
 apart-requires c =
     let value_fits : SFits w64 c.args.value = search rules in
-    let value_small : mag c.args.value < 2 ^ 62 = (let i = c.args.item in let r = c.requires.rule in inside_small i.low i.high c.args.value r.low_small r.high_small (neither_left (lt_z c.args.value i.low) _ c.requires.value_value) (neither_right (lt_z c.args.value i.low) _ c.requires.value_value)) in
+    let value_small : mag c.args.value < 2 ^ 62 =
+    (let i = c.args.item in let r = c.requires.rule in
+    inside_small i.low i.high c.args.value r.low_small r.high_small (neither_left (lt_z c.args.value i.low) _ c.requires.value_value) (neither_right (lt_z c.args.value i.low) _ c.requires.value_value)) in
     let origin_is : SFits w64 c.scale_of-s.result.origin = origin_fits c.args.item c.requires.rule c.scale_of-s.ensures in
     let b = c in
     let a = b in
@@ -27,7 +29,8 @@ pub rounded-far-requires : goal.rounded-far-requires
 rounded-far-requires c =
     let value_fits : SFits w64 c.args.value = search rules in
     let origin_is : SFits w64 c.scale_of-s.result.origin = origin_fits c.args.item c.requires.rule c.scale_of-s.ensures in
-    let far_is : c.apart.result ≡ value_far c.args.item c.args.value = (let b = c in rw (to_z-of_z (value_fits), to_z-of_z (origin_is), b.scale_of-s.ensures.from) at c.apart.ensures) in
+    let far_is : c.apart.result ≡ value_far c.args.item c.args.value =
+    (let b = c in rw (to_z-of_z (value_fits), to_z-of_z (origin_is), b.scale_of-s.ensures.from) at c.apart.ensures) in
     let b = c in
     let a = b in
     let both = codes_round a.args.item a.requires.rule b.scale_of-s.ensures a.args.value a.requires.value_value in
@@ -37,8 +40,13 @@ pub turned-requires : goal.turned-requires
 turned-requires c =
     let value_fits : SFits w64 c.args.value = search rules in
     let origin_is : SFits w64 c.scale_of-s.result.origin = origin_fits c.args.item c.requires.rule c.scale_of-s.ensures in
-    let far_is : c.apart.result ≡ value_far c.args.item c.args.value = (let b = c in rw (to_z-of_z (value_fits), to_z-of_z (origin_is), b.scale_of-s.ensures.from) at c.apart.ensures) in
-    let codes-away : let a = c in c.rounded-far.result ≡ codes_away a.args.item a.args.value = (let b = c in let a = b in rw (c.rounded-far.ensures, far_is) (codes_same a.args.item a.requires.rule b.scale_of-s.ensures (value_far a.args.item a.args.value))) in
+    let far_is : c.apart.result ≡ value_far c.args.item c.args.value =
+    (let b = c in rw (to_z-of_z (value_fits), to_z-of_z (origin_is), b.scale_of-s.ensures.from) at c.apart.ensures) in
+    let codes-away : let a = c in c.rounded-far.result ≡ codes_away a.args.item a.args.value =
+    (let b = c in let a = b in rw (
+      c.rounded-far.ensures,
+      far_is,
+    ) (codes_same a.args.item a.requires.rule b.scale_of-s.ensures (value_far a.args.item a.args.value))) in
     let b = c in
     let a = b in
     rw (codes-away, b.scale_of-s.ensures.all_codes) (few_codes a.args.item a.requires.rule a.args.value a.requires.value_value)
@@ -48,8 +56,13 @@ unfolding code_of
 returns-then-far-gt0 c =
     let value_fits : SFits w64 c.args.value = search rules in
     let origin_is : SFits w64 c.scale_of-s.result.origin = origin_fits c.args.item c.requires.rule c.scale_of-s.ensures in
-    let far_is : c.apart.result ≡ value_far c.args.item c.args.value = (let b = c in rw (to_z-of_z (value_fits), to_z-of_z (origin_is), b.scale_of-s.ensures.from) at c.apart.ensures) in
-    let codes-away : let a = c in c.rounded-far.result ≡ codes_away a.args.item a.args.value = (let b = c in let a = b in rw (c.rounded-far.ensures, far_is) (codes_same a.args.item a.requires.rule b.scale_of-s.ensures (value_far a.args.item a.args.value))) in
+    let far_is : c.apart.result ≡ value_far c.args.item c.args.value =
+    (let b = c in rw (to_z-of_z (value_fits), to_z-of_z (origin_is), b.scale_of-s.ensures.from) at c.apart.ensures) in
+    let codes-away : let a = c in c.rounded-far.result ≡ codes_away a.args.item a.args.value =
+    (let b = c in let a = b in rw (
+      c.rounded-far.ensures,
+      far_is,
+    ) (codes_same a.args.item a.requires.rule b.scale_of-s.ensures (value_far a.args.item a.args.value))) in
     let b = c in
     let a = b in
     let k = b.scale_of-s.ensures in
@@ -62,8 +75,13 @@ unfolding code_of
 returns c =
     let value_fits : SFits w64 c.args.value = search rules in
     let origin_is : SFits w64 c.scale_of-s.result.origin = origin_fits c.args.item c.requires.rule c.scale_of-s.ensures in
-    let far_is : c.apart.result ≡ value_far c.args.item c.args.value = (let b = c in rw (to_z-of_z (value_fits), to_z-of_z (origin_is), b.scale_of-s.ensures.from) at c.apart.ensures) in
-    let codes-away : let a = c in c.rounded-far.result ≡ codes_away a.args.item a.args.value = (let b = c in let a = b in rw (c.rounded-far.ensures, far_is) (codes_same a.args.item a.requires.rule b.scale_of-s.ensures (value_far a.args.item a.args.value))) in
+    let far_is : c.apart.result ≡ value_far c.args.item c.args.value =
+    (let b = c in rw (to_z-of_z (value_fits), to_z-of_z (origin_is), b.scale_of-s.ensures.from) at c.apart.ensures) in
+    let codes-away : let a = c in c.rounded-far.result ≡ codes_away a.args.item a.args.value =
+    (let b = c in let a = b in rw (
+      c.rounded-far.ensures,
+      far_is,
+    ) (codes_same a.args.item a.requires.rule b.scale_of-s.ensures (value_far a.args.item a.args.value))) in
     let a = c in
     let e = codes-away in
     rw e (code_none a.args.item (value_below a.args.item a.args.value) _ (omega arith))

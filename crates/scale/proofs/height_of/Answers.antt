@@ -19,7 +19,9 @@ use Rattle.scale.proofs.height_of.Goals as goal
 
 pub fineness-shift-requires : goal.fineness-shift-requires
 fineness-shift-requires c =
-    let lengths : (2 ≤ c.args.length) × (c.args.length ≤ 4) = (let n = c.args.length in let e = reach_length n c.args.code c.requires in (leb-true 2 n (both_left (leb 2 n) _ e), leb-true n 4 (both_right (leb 2 n) _ e))) in
+    let lengths : (2 ≤ c.args.length) × (c.args.length ≤ 4) =
+    (let n = c.args.length in let e = reach_length n c.args.code c.requires in
+    (leb-true 2 n (both_left (leb 2 n) _ e), leb-true n 4 (both_right (leb 2 n) _ e))) in
     lengths
 
 pub overflow_mul-units : goal.overflow_mul-units
@@ -27,35 +29,48 @@ overflow_mul-units c = record { fits = omega (arith, code_small c.args.length c.
 
 pub overflow_shl-shift : goal.overflow_shl-shift
 overflow_shl-shift c =
-    let lengths : (2 ≤ c.args.length) × (c.args.length ≤ 4) = (let n = c.args.length in let e = reach_length n c.args.code c.requires in (leb-true 2 n (both_left (leb 2 n) _ e), leb-true n 4 (both_right (leb 2 n) _ e))) in
-    let narrow : c.fineness-shift.result < 64 = omega (arith, c.fineness-shift.ensures, (lengths).1) in
+    let lengths : (2 ≤ c.args.length) × (c.args.length ≤ 4) =
+    (let n = c.args.length in let e = reach_length n c.args.code c.requires in
+    (leb-true 2 n (both_left (leb 2 n) _ e), leb-true n 4 (both_right (leb 2 n) _ e))) in
+    let narrow : c.fineness-shift.result < 64 = omega (arith, c.fineness-shift.ensures, lengths.1) in
     narrow
 
 pub half_of-requires : goal.half_of-requires
 half_of-requires c =
-    let lengths : (2 ≤ c.args.length) × (c.args.length ≤ 4) = (let n = c.args.length in let e = reach_length n c.args.code c.requires in (leb-true 2 n (both_left (leb 2 n) _ e), leb-true n 4 (both_right (leb 2 n) _ e))) in
-    let per : (1 * 2 ^ c.fineness-shift.result) % 18446744073709551616 ≡ per_two_metres c.args.length = (let n = c.args.length in rw (one-mul, c.fineness-shift.ensures) (mod-eq_of_lt (omega (arith, few_codes n (lengths).1)))) in
+    let lengths : (2 ≤ c.args.length) × (c.args.length ≤ 4) =
+    (let n = c.args.length in let e = reach_length n c.args.code c.requires in
+    (leb-true 2 n (both_left (leb 2 n) _ e), leb-true n 4 (both_right (leb 2 n) _ e))) in
+    let per : (1 * 2 ^ c.fineness-shift.result) % 18446744073709551616 ≡ per_two_metres c.args.length =
+    (let n = c.args.length in rw (one-mul, c.fineness-shift.ensures) (mod-eq_of_lt (omega (arith, few_codes n lengths.1)))) in
     rw (per) (some_codes c.args.length)
 
 pub overflow_add-units : goal.overflow_add-units
 overflow_add-units c =
-    let lengths : (2 ≤ c.args.length) × (c.args.length ≤ 4) = (let n = c.args.length in let e = reach_length n c.args.code c.requires in (leb-true 2 n (both_left (leb 2 n) _ e), leb-true n 4 (both_right (leb 2 n) _ e))) in
-    let per : (1 * 2 ^ c.fineness-shift.result) % 18446744073709551616 ≡ per_two_metres c.args.length = (let n = c.args.length in rw (one-mul, c.fineness-shift.ensures) (mod-eq_of_lt (omega (arith, few_codes n (lengths).1)))) in
+    let lengths : (2 ≤ c.args.length) × (c.args.length ≤ 4) =
+    (let n = c.args.length in let e = reach_length n c.args.code c.requires in
+    (leb-true 2 n (both_left (leb 2 n) _ e), leb-true n 4 (both_right (leb 2 n) _ e))) in
+    let per : (1 * 2 ^ c.fineness-shift.result) % 18446744073709551616 ≡ per_two_metres c.args.length =
+    (let n = c.args.length in rw (one-mul, c.fineness-shift.ensures) (mod-eq_of_lt (omega (arith, few_codes n lengths.1)))) in
     let half_is : c.half_of.result ≡ per_two_metres c.args.length / 2 = c.half_of.ensures ∙ ap (λ x. x / 2) (per) in
     let a = c in
-    record { fits = omega (arith, half_is, few_codes a.args.length (lengths).1, code_small a.args.length a.args.code a.requires) }
+    record { fits = omega (arith, half_is, few_codes a.args.length lengths.1, code_small a.args.length a.args.code a.requires) }
 
 pub overflow_shr-units : goal.overflow_shr-units
 overflow_shr-units c =
-    let lengths : (2 ≤ c.args.length) × (c.args.length ≤ 4) = (let n = c.args.length in let e = reach_length n c.args.code c.requires in (leb-true 2 n (both_left (leb 2 n) _ e), leb-true n 4 (both_right (leb 2 n) _ e))) in
-    let narrow : c.fineness-shift.result < 64 = omega (arith, c.fineness-shift.ensures, (lengths).1) in
+    let lengths : (2 ≤ c.args.length) × (c.args.length ≤ 4) =
+    (let n = c.args.length in let e = reach_length n c.args.code c.requires in
+    (leb-true 2 n (both_left (leb 2 n) _ e), leb-true n 4 (both_right (leb 2 n) _ e))) in
+    let narrow : c.fineness-shift.result < 64 = omega (arith, c.fineness-shift.ensures, lengths.1) in
     narrow
 
 pub placed-requires : goal.placed-requires
 unfolding shown
 placed-requires c =
-    let lengths : (2 ≤ c.args.length) × (c.args.length ≤ 4) = (let n = c.args.length in let e = reach_length n c.args.code c.requires in (leb-true 2 n (both_left (leb 2 n) _ e), leb-true n 4 (both_right (leb 2 n) _ e))) in
-    let per : (1 * 2 ^ c.fineness-shift.result) % 18446744073709551616 ≡ per_two_metres c.args.length = (let n = c.args.length in rw (one-mul, c.fineness-shift.ensures) (mod-eq_of_lt (omega (arith, few_codes n (lengths).1)))) in
+    let lengths : (2 ≤ c.args.length) × (c.args.length ≤ 4) =
+    (let n = c.args.length in let e = reach_length n c.args.code c.requires in
+    (leb-true 2 n (both_left (leb 2 n) _ e), leb-true n 4 (both_right (leb 2 n) _ e))) in
+    let per : (1 * 2 ^ c.fineness-shift.result) % 18446744073709551616 ≡ per_two_metres c.args.length =
+    (let n = c.args.length in rw (one-mul, c.fineness-shift.ensures) (mod-eq_of_lt (omega (arith, few_codes n lengths.1)))) in
     let half_is : c.half_of.result ≡ per_two_metres c.args.length / 2 = c.half_of.ensures ∙ ap (λ x. x / 2) (per) in
     let units : let a = c in (a.args.code * 2000 + c.half_of.result) / 2 ^ c.fineness-shift.result ≡ nearest (a.args.code * 2000) (per_two_metres a.args.length) = (let a = c in rw (half_is, c.fineness-shift.ensures) (cut_with_half (a.args.code * 2000) (per_two_metres a.args.length) (some_codes a.args.length))) in
     let a = c in
@@ -64,8 +79,11 @@ placed-requires c =
 pub returns : goal.returns
 unfolding low_end extended_house
 returns c =
-    let lengths : (2 ≤ c.args.length) × (c.args.length ≤ 4) = (let n = c.args.length in let e = reach_length n c.args.code c.requires in (leb-true 2 n (both_left (leb 2 n) _ e), leb-true n 4 (both_right (leb 2 n) _ e))) in
-    let per : (1 * 2 ^ c.fineness-shift.result) % 18446744073709551616 ≡ per_two_metres c.args.length = (let n = c.args.length in rw (one-mul, c.fineness-shift.ensures) (mod-eq_of_lt (omega (arith, few_codes n (lengths).1)))) in
+    let lengths : (2 ≤ c.args.length) × (c.args.length ≤ 4) =
+    (let n = c.args.length in let e = reach_length n c.args.code c.requires in
+    (leb-true 2 n (both_left (leb 2 n) _ e), leb-true n 4 (both_right (leb 2 n) _ e))) in
+    let per : (1 * 2 ^ c.fineness-shift.result) % 18446744073709551616 ≡ per_two_metres c.args.length =
+    (let n = c.args.length in rw (one-mul, c.fineness-shift.ensures) (mod-eq_of_lt (omega (arith, few_codes n lengths.1)))) in
     let half_is : c.half_of.result ≡ per_two_metres c.args.length / 2 = c.half_of.ensures ∙ ap (λ x. x / 2) (per) in
     let units : let a = c in (a.args.code * 2000 + c.half_of.result) / 2 ^ c.fineness-shift.result ≡ nearest (a.args.code * 2000) (per_two_metres a.args.length) = (let a = c in rw (half_is, c.fineness-shift.ensures) (cut_with_half (a.args.code * 2000) (per_two_metres a.args.length) (some_codes a.args.length))) in
     let fits : SFits w64 c.placed.result = search rules in

@@ -18,7 +18,8 @@ turned-far-requires c =
 
 pub rounded-units-requires : goal.rounded-units-requires
 rounded-units-requires c =
-    let below_is : c.is_below-below.result ≡ code_below c.args.item c.args.code = (let b = c in c.is_below-below.ensures ∙ below_same b.args.item b.requires.rule b.scale_of-s.ensures b.args.code) in
+    let below_is : c.is_below-below.result ≡ code_below c.args.item c.args.code =
+    (let b = c in c.is_below-below.ensures ∙ below_same b.args.item b.requires.rule b.scale_of-s.ensures b.args.code) in
     let far_is : c.turned-far.result ≡ code_far c.args.item c.args.code = rw (c.turned-far.ensures, below_is, c.scale_of-s.ensures.all_codes) in
     let few : code_far c.args.item c.args.code ≤ codes c.args.item = far_fits c.args.item c.requires.rule c.args.code c.requires.code_value in
     let b = c in
@@ -28,10 +29,15 @@ rounded-units-requires c =
 
 pub placed-requires : goal.placed-requires
 placed-requires c =
-    let below_is : c.is_below-below.result ≡ code_below c.args.item c.args.code = (let b = c in c.is_below-below.ensures ∙ below_same b.args.item b.requires.rule b.scale_of-s.ensures b.args.code) in
+    let below_is : c.is_below-below.result ≡ code_below c.args.item c.args.code =
+    (let b = c in c.is_below-below.ensures ∙ below_same b.args.item b.requires.rule b.scale_of-s.ensures b.args.code) in
     let far_is : c.turned-far.result ≡ code_far c.args.item c.args.code = rw (c.turned-far.ensures, below_is, c.scale_of-s.ensures.all_codes) in
     let few : code_far c.args.item c.args.code ≤ codes c.args.item = far_fits c.args.item c.requires.rule c.args.code c.requires.code_value in
-    let units-away : let a = c in c.rounded-units.result ≡ units_away a.args.item a.args.code = (let b = c in let a = b in rw (c.rounded-units.ensures, far_is) (units_same a.args.item a.requires.rule b.scale_of-s.ensures (code_far a.args.item a.args.code))) in
+    let units-away : let a = c in c.rounded-units.result ≡ units_away a.args.item a.args.code =
+    (let b = c in let a = b in rw (
+      c.rounded-units.ensures,
+      far_is,
+    ) (units_same a.args.item a.requires.rule b.scale_of-s.ensures (code_far a.args.item a.args.code))) in
     let b = c in
     let a = b in
     let k = b.scale_of-s.ensures in
@@ -41,9 +47,14 @@ placed-requires c =
 pub returns : goal.returns
 unfolding house_of
 returns c =
-    let below_is : c.is_below-below.result ≡ code_below c.args.item c.args.code = (let b = c in c.is_below-below.ensures ∙ below_same b.args.item b.requires.rule b.scale_of-s.ensures b.args.code) in
+    let below_is : c.is_below-below.result ≡ code_below c.args.item c.args.code =
+    (let b = c in c.is_below-below.ensures ∙ below_same b.args.item b.requires.rule b.scale_of-s.ensures b.args.code) in
     let far_is : c.turned-far.result ≡ code_far c.args.item c.args.code = rw (c.turned-far.ensures, below_is, c.scale_of-s.ensures.all_codes) in
-    let units-away : let a = c in c.rounded-units.result ≡ units_away a.args.item a.args.code = (let b = c in let a = b in rw (c.rounded-units.ensures, far_is) (units_same a.args.item a.requires.rule b.scale_of-s.ensures (code_far a.args.item a.args.code))) in
+    let units-away : let a = c in c.rounded-units.result ≡ units_away a.args.item a.args.code =
+    (let b = c in let a = b in rw (
+      c.rounded-units.ensures,
+      far_is,
+    ) (units_same a.args.item a.requires.rule b.scale_of-s.ensures (code_far a.args.item a.args.code))) in
     let b = c in
     let k = b.scale_of-s.ensures in
     let fits : SFits w64 c.placed.result = search rules in

@@ -33,13 +33,23 @@ overflow_sub-result c =
 
 pub two_sided-requires : goal.two_sided-requires
 two_sided-requires c =
-    let signed_needs : signed c.args.item ≡ true → (2 ≤ c.codes_of-codes.result) × (lt_z (to_z w64 (of_z w64 c.args.item.high)) (pos 0) ≡ false) = (λ e. let item = c.args.item in let r = c.requires in let high : SFits w64 item.high = search rules in rw (c.codes_of-codes.ensures ∙ codes_are item r, to_z-of_z high) (omega (arith, r.halves, r.odd, steps_signed item r e), rw (origin_signed item r e) at r.high_above)) in
+    let signed_needs : signed c.args.item ≡ true → (2 ≤ c.codes_of-codes.result) × (lt_z (to_z w64 (of_z w64 c.args.item.high)) (pos 0) ≡ false) =
+    (λ e. let item = c.args.item in let r = c.requires in let high : SFits w64 item.high = search rules in
+    rw (c.codes_of-codes.ensures ∙ codes_are item r, to_z-of_z high) (
+      omega (arith, r.halves, r.odd, steps_signed item r e),
+      rw (origin_signed item r e) at r.high_above,
+    )) in
     let both = signed_needs (ap is_signed c.in-Signed.is) in
     record { le_codes = both.0; pos_value = both.1 }
 
 pub two_sided-requires-in-Marked : goal.two_sided-requires-in-Marked
 two_sided-requires-in-Marked c =
-    let signed_needs : signed c.args.item ≡ true → (2 ≤ c.codes_of-codes.result) × (lt_z (to_z w64 (of_z w64 c.args.item.high)) (pos 0) ≡ false) = (λ e. let item = c.args.item in let r = c.requires in let high : SFits w64 item.high = search rules in rw (c.codes_of-codes.ensures ∙ codes_are item r, to_z-of_z high) (omega (arith, r.halves, r.odd, steps_signed item r e), rw (origin_signed item r e) at r.high_above)) in
+    let signed_needs : signed c.args.item ≡ true → (2 ≤ c.codes_of-codes.result) × (lt_z (to_z w64 (of_z w64 c.args.item.high)) (pos 0) ≡ false) =
+    (λ e. let item = c.args.item in let r = c.requires in let high : SFits w64 item.high = search rules in
+    rw (c.codes_of-codes.ensures ∙ codes_are item r, to_z-of_z high) (
+      omega (arith, r.halves, r.odd, steps_signed item r e),
+      rw (origin_signed item r e) at r.high_above,
+    )) in
     let both = signed_needs (ap is_signed c.in-Marked.is) in
     record { le_codes = both.0; pos_value = both.1 }
 
@@ -55,10 +65,14 @@ returns-in-Unsigned c =
 
 pub returns-in-Signed : goal.returns-in-Signed
 returns-in-Signed c =
-    let counted : (s : Scale) → signed c.args.item ≡ true → Counted c.codes_of-codes.result (to_z w64 (of_z w64 c.args.item.high)) s → Scales c.args.item s = (λ s e h. let item = c.args.item in let high : SFits w64 item.high = search rules in counted_scales item c.requires s e (rw (c.codes_of-codes.ensures ∙ codes_are item c.requires, to_z-of_z high) at h)) in
+    let counted : (s : Scale) → signed c.args.item ≡ true → Counted c.codes_of-codes.result (to_z w64 (of_z w64 c.args.item.high)) s
+    → Scales c.args.item s = (λ s e h. let item = c.args.item in let high : SFits w64 item.high = search rules in
+    counted_scales item c.requires s e (rw (c.codes_of-codes.ensures ∙ codes_are item c.requires, to_z-of_z high) at h)) in
     counted _ (ap is_signed c.in-Signed.is) c.two_sided.ensures
 
 pub returns-in-Marked : goal.returns-in-Marked
 returns-in-Marked c =
-    let counted : (s : Scale) → signed c.args.item ≡ true → Counted c.codes_of-codes.result (to_z w64 (of_z w64 c.args.item.high)) s → Scales c.args.item s = (λ s e h. let item = c.args.item in let high : SFits w64 item.high = search rules in counted_scales item c.requires s e (rw (c.codes_of-codes.ensures ∙ codes_are item c.requires, to_z-of_z high) at h)) in
+    let counted : (s : Scale) → signed c.args.item ≡ true → Counted c.codes_of-codes.result (to_z w64 (of_z w64 c.args.item.high)) s
+    → Scales c.args.item s = (λ s e h. let item = c.args.item in let high : SFits w64 item.high = search rules in
+    counted_scales item c.requires s e (rw (c.codes_of-codes.ensures ∙ codes_are item c.requires, to_z-of_z high) at h)) in
     counted _ (ap is_signed c.in-Marked.is) c.two_sided-in-Marked.ensures

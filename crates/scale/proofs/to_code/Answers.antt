@@ -28,7 +28,9 @@ pub returns-then-is_outside : goal.returns-then-is_outside
 returns-then-is_outside c =
     let value_fits : SFits w64 c.args.value = search rules in
     let has_scale : Scaled c.args.tag c.in-Known.item = scaled_known _ _ (sym c.scaled_item.ensures ∙ c.in-Known.is) in
-    let outside_is : let k = c in is_outside k.in-Known.item k.args.value ≡ c.is_outside.result = (let k = c in let i = k.in-Known.item in let low : SFits w64 i.low = search rules in let high : SFits w64 i.high = search rules in sym (rw (to_z-of_z low, to_z-of_z high, to_z-of_z (value_fits)) at c.is_outside.ensures)) in
+    let outside_is : let k = c in is_outside k.in-Known.item k.args.value ≡ c.is_outside.result =
+    (let k = c in let i = k.in-Known.item in let low : SFits w64 i.low = search rules in let high : SFits w64 i.high = search rules in
+    sym (rw (to_z-of_z low, to_z-of_z high, to_z-of_z (value_fits)) at c.is_outside.ensures)) in
     let n = c in
     let e = c.refuse.ensures in
     rw (outside_21 (has_scale) _ _ (outside_is ∙ c.if-is_outside.true), e.0, e.1, e.2)
@@ -37,7 +39,9 @@ pub code_of-requires : goal.code_of-requires
 code_of-requires c =
     let value_fits : SFits w64 c.args.value = search rules in
     let has_scale : Scaled c.args.tag c.in-Known.item = scaled_known _ _ (sym c.scaled_item.ensures ∙ c.in-Known.is) in
-    let outside_is : let k = c in is_outside k.in-Known.item k.args.value ≡ c.is_outside.result = (let k = c in let i = k.in-Known.item in let low : SFits w64 i.low = search rules in let high : SFits w64 i.high = search rules in sym (rw (to_z-of_z low, to_z-of_z high, to_z-of_z (value_fits)) at c.is_outside.ensures)) in
+    let outside_is : let k = c in is_outside k.in-Known.item k.args.value ≡ c.is_outside.result =
+    (let k = c in let i = k.in-Known.item in let low : SFits w64 i.low = search rules in let high : SFits w64 i.high = search rules in
+    sym (rw (to_z-of_z low, to_z-of_z high, to_z-of_z (value_fits)) at c.is_outside.ensures)) in
     let n = c in
     let k = n in
     rw (to_z-of_z (value_fits)) record { rule = scaled_rule (has_scale); value_value = outside_is ∙ c.if-is_outside.false }
@@ -46,7 +50,9 @@ pub returns-else-is_outside : goal.returns-else-is_outside
 returns-else-is_outside c =
     let value_fits : SFits w64 c.args.value = search rules in
     let has_scale : Scaled c.args.tag c.in-Known.item = scaled_known _ _ (sym c.scaled_item.ensures ∙ c.in-Known.is) in
-    let outside_is : let k = c in is_outside k.in-Known.item k.args.value ≡ c.is_outside.result = (let k = c in let i = k.in-Known.item in let low : SFits w64 i.low = search rules in let high : SFits w64 i.high = search rules in sym (rw (to_z-of_z low, to_z-of_z high, to_z-of_z (value_fits)) at c.is_outside.ensures)) in
+    let outside_is : let k = c in is_outside k.in-Known.item k.args.value ≡ c.is_outside.result =
+    (let k = c in let i = k.in-Known.item in let low : SFits w64 i.low = search rules in let high : SFits w64 i.high = search rules in
+    sym (rw (to_z-of_z low, to_z-of_z high, to_z-of_z (value_fits)) at c.is_outside.ensures)) in
     let n = c in
     let k = n in
     let fits = value_fits in

@@ -9,10 +9,12 @@ use Rattle.walker.proofs.unfixed_shape.Goals as goal
 
 pub returns-then-item : goal.returns-then-item
 returns-then-item c =
-    let tested : (let i = c.args.item in lt_z i.low i.high ≡ lt_z (to_z w64 (of_z w64 i.low)) (to_z w64 (of_z w64 i.high))) = (let i = c.args.item in let low : SFits w64 i.low = search rules in let high : SFits w64 i.high = search rules in rw (to_z-of_z low, to_z-of_z high)) in
+    let tested : (let i = c.args.item in lt_z i.low i.high ≡ lt_z (to_z w64 (of_z w64 i.low)) (to_z w64 (of_z w64 i.high))) =
+    (let i = c.args.item in let low : SFits w64 i.low = search rules in let high : SFits w64 i.high = search rules in rw (to_z-of_z low, to_z-of_z high)) in
     rw (tested ∙ c.if-item.true)
 
 pub returns : goal.returns
 returns c =
-    let tested : (let i = c.args.item in lt_z i.low i.high ≡ lt_z (to_z w64 (of_z w64 i.low)) (to_z w64 (of_z w64 i.high))) = (let i = c.args.item in let low : SFits w64 i.low = search rules in let high : SFits w64 i.high = search rules in rw (to_z-of_z low, to_z-of_z high)) in
+    let tested : (let i = c.args.item in lt_z i.low i.high ≡ lt_z (to_z w64 (of_z w64 i.low)) (to_z w64 (of_z w64 i.high))) =
+    (let i = c.args.item in let low : SFits w64 i.low = search rules in let high : SFits w64 i.high = search rules in rw (to_z-of_z low, to_z-of_z high)) in
     rw (tested ∙ c.if-item.false)
