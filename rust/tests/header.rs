@@ -195,7 +195,12 @@ fn header_structs() -> Structs {
 
 /// The structs of Rust or of the proved code that are laid out as in C.
 fn structs(code: &str) -> Structs {
-    let declared = code.split("#[repr(C)]\npub struct ").skip(1);
+    let declared = code.split("#[repr(C)]\n").skip(1);
+    let declared = declared.map(|rest| {
+        rest.strip_prefix("#[derive(Clone, Copy)]\n")
+            .unwrap_or(rest)
+    });
+    let declared = declared.filter_map(|rest| rest.strip_prefix("pub struct "));
     let structs = declared.map(|declaration| {
         let (name, rest) = declaration.split_once(" {").expect("fields");
         let (fields, _) = rest.split_once('}').expect("an end of fields");
