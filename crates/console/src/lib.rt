@@ -29,11 +29,8 @@ pub fn say<W: Write>(to: &mut W, text: &[u8]) -> Result<()> {
 
 pub fn decimal<W: Write>(to: &mut W, n: u64) -> Result<()> {
     let mut text = [0u8; 20];
-    let size = spelling::put_decimal(&mut text, 0, n);
-    if size <= 20 {
-        say(to, &text[..size])?;
-    }
-    Ok(())
+    let size = io::decimal(n, &mut text);
+    say(to, &text[..size])
 }
 
 // The digits of a number in lower-case hexadecimal, at least so many.
