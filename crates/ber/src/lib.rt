@@ -24,7 +24,8 @@ pub fn tag_at(s: &[u8], at: usize) -> Field
     }
     let a = number::wide(s[at]);
     if a < 128 {
-        if 0 < a {
+        let some = 0 < a;
+        if some {
             return Field::Is { value: a, size: 1 };
         }
         return Field::Broken;

@@ -265,7 +265,8 @@ fn plain_corner(packet: &[u8], known: TagSet, places: &[u16; 128], k: u64) -> Co
     if k == 0 {
         return Corner::Missing;
     }
-    if 5 <= k {
+    let past_last = 5 <= k;
+    if past_last {
         return Corner::Missing;
     }
     let full = full_corner(packet, known, places, k);
@@ -296,7 +297,8 @@ const TURN_WEST: i64 = -3_600_000_000;
 fn turn_for(longitude: i64) -> i64
     ensures { result ≡ turn_for longitude }
 {
-    if EAST_END <= longitude {
+    let past_east = EAST_END <= longitude;
+    if past_east {
         return TURN_WEST;
     }
     if longitude < WEST_END {

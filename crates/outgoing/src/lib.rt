@@ -245,7 +245,8 @@ fn sized(column: &[u8; 128], known: TagSet, count: usize, words: &[u64]) -> Outg
     ensures { outgoing_said result ≡ sized_in known count words.now }
 {
     let packed = packet_size(rows_size(count, words));
-    if 8192 < packed.size {
+    let too_long = 8192 < packed.size;
+    if too_long {
         return refused(Reason::PacketTooLong, 0, 0);
     }
     closed(column, known, count, words, packed)

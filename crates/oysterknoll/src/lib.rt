@@ -241,8 +241,8 @@ pub extern "C" fn oyk_check(packet: &[u8], low: u64, high: u64) -> CountAnswer
 // Reads a packet into a table: how many rows there are, which known items, and which of them are withdrawn.
 #[unsafe(no_mangle)]
 pub extern "C" fn oyk_read(packet: &[u8], low: u64, high: u64, table: &mut [u64]) -> CountAnswer
-    ensures value { result ≡ rows_answer (read_answer (knowing low high) packet.now table.old) }
-    ensures table_after { table.new ≡ read_table (knowing low high) packet.now table.old }
+    ensures answer { result ≡ rows_answer (read_answer (knowing low high) packet.now table.old) }
+    ensures rows_left { table.new ≡ read_table (knowing low high) packet.now table.old }
 {
     match reader::read(packet, TagSet { low, high }, table) {
         Reading::Refused(cause) => CountAnswer {
@@ -367,8 +367,8 @@ pub extern "C" fn oyk_write(
     high: u64,
     out: &mut [u8],
 ) -> SizeAnswer
-    ensures value { result ≡ bytes_answer (write_answer (knowing low high) count words.now buffer.now out.old) }
-    ensures out_after { out.new ≡ write_output (knowing low high) count words.now buffer.now out.old }
+    ensures answer { result ≡ bytes_answer (write_answer (knowing low high) count words.now buffer.now out.old) }
+    ensures output { out.new ≡ write_output (knowing low high) count words.now buffer.now out.old }
 {
     match writer::write(TagSet { low, high }, count, words, buffer, out) {
         Writing::Refused(cause) => SizeAnswer {
@@ -394,9 +394,9 @@ pub extern "C" fn oyk_write_with(
     present_high: u64,
     out: &mut [u8],
 ) -> SizeAnswer
-    ensures value { result ≡ bytes_answer (write_answer_with (knowing low high) (Words (knowing present_low present_high)) count words.now
+    ensures answer { result ≡ bytes_answer (write_answer_with (knowing low high) (Words (knowing present_low present_high)) count words.now
         buffer.now out.old) }
-    ensures out_after { out.new ≡ write_output_with (knowing low high) (Words (knowing present_low present_high)) count words.now
+    ensures output { out.new ≡ write_output_with (knowing low high) (Words (knowing present_low present_high)) count words.now
         buffer.now out.old }
 {
     let present = TagSet {
@@ -418,8 +418,8 @@ pub extern "C" fn oyk_write_with(
 // Sends a packet on: how many bytes it takes.
 #[unsafe(no_mangle)]
 pub extern "C" fn oyk_forward(packet: &[u8], low: u64, high: u64, out: &mut [u8]) -> SizeAnswer
-    ensures value { result ≡ bytes_answer (forward_answer (knowing low high) packet.now out.old) }
-    ensures out_after { out.new ≡ forward_output (knowing low high) packet.now out.old }
+    ensures answer { result ≡ bytes_answer (forward_answer (knowing low high) packet.now out.old) }
+    ensures output { out.new ≡ forward_output (knowing low high) packet.now out.old }
 {
     match relay::forward(TagSet { low, high }, packet, out) {
         Forwarding::Refused(cause) => SizeAnswer {
@@ -612,8 +612,8 @@ pub extern "C" fn oyk_item(tag: u64) -> ItemAnswer
 // Lists an accepted packet for a reader of the whole catalogue: how many bytes the listing takes.
 #[unsafe(no_mangle)]
 pub extern "C" fn oyk_list(packet: &[u8], out: &mut [u8]) -> SizeAnswer
-    ensures value { result ≡ lines_answer (list_answer packet.now out.old) }
-    ensures out_after { out.new ≡ list_output packet.now out.old }
+    ensures answer { result ≡ lines_answer (list_answer packet.now out.old) }
+    ensures output { out.new ≡ list_output packet.now out.old }
 {
     match listing::list_accepted(packet, out) {
         Listing::Refused(cause) => SizeAnswer {

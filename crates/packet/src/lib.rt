@@ -291,7 +291,8 @@ fn is_fit(packet: &[u8], column: &[u8; 128], item: Header) -> bool
         let end = place + size;
         return catalogue::is_in_reach(size, number::value(&packet[place..end]));
     }
-    if 128 <= size {
+    let long = 128 <= size;
+    if long {
         return false;
     }
     is_within(column[tag], size as u8)
@@ -602,7 +603,8 @@ pub fn check_ends(ends: Ends) -> Right
 {
     if ends.first == 2 {
         if ends.last == 1 {
-            if ends.size == 2 {
+            let two_bytes = ends.size == 2;
+            if two_bytes {
                 return Right::Yes;
             }
         }

@@ -185,7 +185,8 @@ pub fn read(packet: &[u8], known: TagSet, table: &mut [u64]) -> Reading
     ensures { Reads known packet.now table.old result table.new }
 {
     if knowing::is_good(known) {
-        if table.len() < 512 {
+        let short = table.len() < 512;
+        if short {
             return refused(Reason::TableTooShort);
         }
         return match packet::check(packet, known) {

@@ -186,8 +186,8 @@ fn scale_of(item: Item) -> Scale
 
 // The scale of a signed item, counted from zero.
 fn two_sided(codes: u64, high: i64) -> Scale
-    requires le_codes { 2 ≤ codes }
-    requires pos_value { lt_z high (pos 0) ≡ false }
+    requires two_codes { 2 ≤ codes }
+    requires high_from_zero { lt_z high (pos 0) ≡ false }
     ensures { Counted codes high result }
 {
     Scale {
@@ -220,8 +220,8 @@ fn apart(from: i64, to: i64) -> u64
 
 // The nearest whole number to far * by / q, a tie going up.
 fn rounded(far: u64, by: u64, q: u64) -> u64
-    requires q_nonzero { 0 < q }
-    requires by_bound { far * by < 2 ^ 63 }
+    requires some_parts { 0 < q }
+    requires product_fits { far * by < 2 ^ 63 }
     ensures { result ≡ nearest (far * by) q }
 {
     let p = far * by;
@@ -268,7 +268,7 @@ fn placed(origin: i64, below: bool, units: u64) -> i64
 
 fn house_of(item: Item, code: u64) -> i64
     requires rule { Rule item }
-    requires code_value { is_number item code ≡ true }
+    requires is_code { is_number item code ≡ true }
     ensures { result ≡ house_of item code }
 {
     let s = scale_of(item);
@@ -280,7 +280,7 @@ fn house_of(item: Item, code: u64) -> i64
 
 fn code_of(item: Item, value: i64) -> u64
     requires rule { Rule item }
-    requires value_value { is_outside item value ≡ false }
+    requires inside { is_outside item value ≡ false }
     ensures { result ≡ code_of item value }
 {
     let s = scale_of(item);
@@ -375,8 +375,8 @@ fn whole_steps(parts: u64) -> u64
 
 // The code at or below a value between the ends.
 fn height_code(length: usize, value: i64) -> u64
-    requires in_bounds { (2 ≤ length) × (length ≤ 4) }
-    requires value_value { beyond low_end high_end value ≡ false }
+    requires lengths { (2 ≤ length) × (length ≤ 4) }
+    requires inside { beyond low_end high_end value ≡ false }
     ensures { result ≡ extended_code length value }
 {
     let far = up_to(LOW, value);

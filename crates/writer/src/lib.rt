@@ -145,7 +145,8 @@ fn write_handed(
         Outgoing::Refused(refusal) => Writing::Refused(refusal),
         Outgoing::Fits(packed) => {
             let size = packed.size;
-            if out.len() < size {
+            let short = out.len() < size;
+            if short {
                 return Writing::Refused(Refusal {
                     reason: Reason::OutputTooShort,
                     place: 0,

@@ -8,9 +8,9 @@ pub returns-then-s-at : goal.returns-then-s-at
 unfolding read_tag
 returns-then-s-at c = rw (nil_at _ _ c.if-s-at.true)
 
-pub returns-then-a-gt0 : goal.returns-then-a-gt0
+pub returns-then-some : goal.returns-then-some
 unfolding read_tag
-returns-then-a-gt0 c = rw (byte_at _ _ c.wide-a.ensures.0 c.if-s-at.false) (search cases)
+returns-then-some c = rw (byte_at _ _ c.wide-a.ensures.0 c.if-s-at.false) (search cases)
 
 pub returns-then-a-lt128 : goal.returns-then-a-lt128
 unfolding read_tag

@@ -30,7 +30,9 @@ overflow_add-items c =
     let passed : (let l = c in let a = l.args in Plain a.known l.loop-n.seen a.room c.row_at-row.result c.plain_size-size.result) =
     c.plain_size-size.ensures (omega arith) in
     let added : (let l = c in let a = l.args in
-    rows_size (rows_in l.loop-n.n (a.count - l.loop-n.n) a.words.now) ≡ c.plain_size-size.result + rows_size (rows_in (l.loop-n.n + 1) (a.count - (l.loop-n.n + 1)) a.words.now)) = rw (passed.size, c.row_at-row.ensures) (size_more _ _ _ c.loop-n-test.true) in
+    rows_size (rows_in l.loop-n.n (a.count - l.loop-n.n) a.words.now)
+    ≡ c.plain_size-size.result + rows_size (rows_in (l.loop-n.n + 1) (a.count - (l.loop-n.n + 1)) a.words.now)) =
+    rw (passed.size, c.row_at-row.ensures) (size_more _ _ _ c.loop-n-test.true) in
     let a = c.args in
     omega (arith, added, rows_small 0 a.count a.words.now)
 
@@ -42,7 +44,9 @@ loop-n-preserved c =
     let passed : (let l = c in let a = l.args in Plain a.known l.loop-n.seen a.room c.row_at-row.result c.plain_size-size.result) =
     c.plain_size-size.ensures (omega arith) in
     let added : (let l = c in let a = l.args in
-    rows_size (rows_in l.loop-n.n (a.count - l.loop-n.n) a.words.now) ≡ c.plain_size-size.result + rows_size (rows_in (l.loop-n.n + 1) (a.count - (l.loop-n.n + 1)) a.words.now)) = rw (passed.size, c.row_at-row.ensures) (size_more _ _ _ c.loop-n-test.true) in
+    rows_size (rows_in l.loop-n.n (a.count - l.loop-n.n) a.words.now)
+    ≡ c.plain_size-size.result + rows_size (rows_in (l.loop-n.n + 1) (a.count - (l.loop-n.n + 1)) a.words.now)) =
+    rw (passed.size, c.row_at-row.ensures) (size_more _ _ _ c.loop-n-test.true) in
     let row = c in
     let l = row in
     let a = l.args in

@@ -13,7 +13,9 @@ loop-n-init c = rw sub-zero (zero-add _)
 
 pub overflow_add-size : goal.overflow_add-size
 overflow_add-size c =
-    let now : rows_size (rows_in c.loop-n.n (c.args.count - c.loop-n.n) c.args.words.now) ≡ c.row_size-size.result + rows_size (rows_in (c.loop-n.n + 1) (c.args.count - (c.loop-n.n + 1)) c.args.words.now) = rw (c.row_size-size.ensures, c.row_at.ensures) (size_more _ _ _ c.loop-n-test.true) in
+    let now : rows_size (rows_in c.loop-n.n (c.args.count - c.loop-n.n) c.args.words.now)
+    ≡ c.row_size-size.result + rows_size (rows_in (c.loop-n.n + 1) (c.args.count - (c.loop-n.n + 1)) c.args.words.now) =
+    rw (c.row_size-size.ensures, c.row_at.ensures) (size_more _ _ _ c.loop-n-test.true) in
     let a = c.args in
     omega (arith, now, rows_small 0 a.count a.words.now)
 
@@ -22,7 +24,9 @@ loop-n-smaller c = omega arith
 
 pub loop-n-preserved : goal.loop-n-preserved
 loop-n-preserved c =
-    let now : rows_size (rows_in c.loop-n.n (c.args.count - c.loop-n.n) c.args.words.now) ≡ c.row_size-size.result + rows_size (rows_in (c.loop-n.n + 1) (c.args.count - (c.loop-n.n + 1)) c.args.words.now) = rw (c.row_size-size.ensures, c.row_at.ensures) (size_more _ _ _ c.loop-n-test.true) in
+    let now : rows_size (rows_in c.loop-n.n (c.args.count - c.loop-n.n) c.args.words.now)
+    ≡ c.row_size-size.result + rows_size (rows_in (c.loop-n.n + 1) (c.args.count - (c.loop-n.n + 1)) c.args.words.now) =
+    rw (c.row_size-size.ensures, c.row_at.ensures) (size_more _ _ _ c.loop-n-test.true) in
     omega (arith, now)
 
 pub returns : goal.returns

@@ -13,14 +13,14 @@ packet_size-packed-requires c =
     let a = c.args in
     omega (arith, c.rows_size.ensures, rows_small 0 a.count a.words.now)
 
-pub returns-then-packed-gt8192 : goal.returns-then-packed-gt8192
-returns-then-packed-gt8192 c =
+pub returns-then-too_long : goal.returns-then-too_long
+returns-then-too_long c =
     let size_found : c.packet_size-packed.result ≡ packed_by (rows_size (rows_in 0 c.args.count c.args.words.now)) =
     c.packet_size-packed.ensures ∙ ap packed_by c.rows_size.ensures in
     let s = c in
     let a = s.args in
     let z = s.packet_size-packed.result in
-    let step : sized_by a.known a.count a.words.now z ≡ refused 3 0 0 = rw (lt-ltb 8192 z.size c.if-packed-gt8192.true) in
+    let step : sized_by a.known a.count a.words.now z ≡ refused 3 0 0 = rw (lt-ltb 8192 z.size c.if-too_long.true) in
     c.refused.ensures ∙ (sym step ∙ ap (sized_by a.known a.count a.words.now) (size_found))
 
 pub returns : goal.returns
@@ -31,5 +31,5 @@ returns c =
     let a = s.args in
     let z = s.packet_size-packed.result in
     let step : sized_by a.known a.count a.words.now z ≡ closed_in a.known a.count a.words.now z =
-    rw (le-ltb 8192 z.size c.if-packed-gt8192.false) in
+    rw (le-ltb 8192 z.size c.if-too_long.false) in
     c.closed.ensures ∙ (sym step ∙ ap (sized_by a.known a.count a.words.now) (size_found))

@@ -7,13 +7,13 @@ use Rattle.oysterknoll.proofs.oyk_forward.Goals as goal
 
 pub returns-in-Refused : goal.returns-in-Refused
 returns-in-Refused c = record {
-  value = ap (λ x. sizing x 0) c.refused.ensures
+  answer = ap (λ x. sizing x 0) c.refused.ensures
       ∙ said bytes_answer forward_said c.in-Refused.is c.forward.ensures.answer;
-  out_after = c.forward.ensures.output;
+  output = c.forward.ensures.output;
 }
 
 pub returns-in-Packet : goal.returns-in-Packet
 returns-in-Packet c = record {
-  value = said bytes_answer forward_said c.in-Packet.is c.forward.ensures.answer;
-  out_after = c.forward.ensures.output;
+  answer = said bytes_answer forward_said c.in-Packet.is c.forward.ensures.answer;
+  output = c.forward.ensures.output;
 }

@@ -7,13 +7,13 @@ use Rattle.oysterknoll.proofs.oyk_list.Goals as goal
 
 pub returns-in-Refused : goal.returns-in-Refused
 returns-in-Refused c = record {
-  value = ap (λ x. sizing x 0) c.refused.ensures
+  answer = ap (λ x. sizing x 0) c.refused.ensures
       ∙ said lines_answer list_said c.in-Refused.is c.list_accepted.ensures.answer;
-  out_after = c.list_accepted.ensures.output;
+  output = c.list_accepted.ensures.output;
 }
 
 pub returns-in-Lines : goal.returns-in-Lines
 returns-in-Lines c = record {
-  value = said lines_answer list_said c.in-Lines.is c.list_accepted.ensures.answer;
-  out_after = c.list_accepted.ensures.output;
+  answer = said lines_answer list_said c.in-Lines.is c.list_accepted.ensures.answer;
+  output = c.list_accepted.ensures.output;
 }

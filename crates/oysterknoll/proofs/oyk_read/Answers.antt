@@ -8,9 +8,9 @@ use Rattle.oysterknoll.proofs.oyk_read.Goals as goal
 
 pub returns-in-Refused : goal.returns-in-Refused
 returns-in-Refused c = record {
-  value = ap (λ x. counting x 0 no_tags no_tags) c.refused.ensures
+  answer = ap (λ x. counting x 0 no_tags no_tags) c.refused.ensures
       ∙ said rows_answer read_said c.in-Refused.is c.read.ensures.answer;
-  table_after = c.read.ensures.table;
+  rows_left = c.read.ensures.table;
 }
 
 pub returns-in-Rows : goal.returns-in-Rows
@@ -18,6 +18,6 @@ returns-in-Rows c =
     let a = c in
     let read = a.read.ensures in
     record {
-      value = rw (c.words_of-in-Rows.ensures, c.words_of.ensures) (said rows_answer read_said a.in-Rows.is read.answer);
-      table_after = read.table;
+      answer = rw (c.words_of-in-Rows.ensures, c.words_of.ensures) (said rows_answer read_said a.in-Rows.is read.answer);
+      rows_left = read.table;
     }

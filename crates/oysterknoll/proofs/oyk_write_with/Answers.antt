@@ -7,13 +7,13 @@ use Rattle.oysterknoll.proofs.oyk_write_with.Goals as goal
 
 pub returns-in-Refused : goal.returns-in-Refused
 returns-in-Refused c = record {
-  value = ap (λ x. sizing x 0) c.refused.ensures
+  answer = ap (λ x. sizing x 0) c.refused.ensures
       ∙ said bytes_answer write_said c.in-Refused.is c.write_with.ensures.answer;
-  out_after = c.write_with.ensures.output;
+  output = c.write_with.ensures.output;
 }
 
 pub returns-in-Packet : goal.returns-in-Packet
 returns-in-Packet c = record {
-  value = said bytes_answer write_said c.in-Packet.is c.write_with.ensures.answer;
-  out_after = c.write_with.ensures.output;
+  answer = said bytes_answer write_said c.in-Packet.is c.write_with.ensures.answer;
+  output = c.write_with.ensures.output;
 }

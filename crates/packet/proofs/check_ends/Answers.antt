@@ -3,13 +3,13 @@ use borrow.Author.Tests.{eq-eqb, ne_eqb}
 use Rattle.packet.specs.Ends.{right_ends}
 use Rattle.packet.proofs.check_ends.Goals as goal
 
-pub returns-then-ends-eq2-2 : goal.returns-then-ends-eq2-2
+pub returns-then-two_bytes : goal.returns-then-two_bytes
 unfolding right_ends
-returns-then-ends-eq2-2 c = rw (eq-eqb _ 2 c.if-ends-eq2.true, eq-eqb _ 1 c.if-ends-eq1.true, eq-eqb _ 2 c.if-ends-eq2-2.true)
+returns-then-two_bytes c = rw (eq-eqb _ 2 c.if-ends-eq2.true, eq-eqb _ 1 c.if-ends-eq1.true, eq-eqb _ 2 c.if-two_bytes.true)
 
-pub returns-else-ends-eq2-2 : goal.returns-else-ends-eq2-2
+pub returns-else-two_bytes : goal.returns-else-two_bytes
 unfolding right_ends
-returns-else-ends-eq2-2 c = rw (eq-eqb _ 2 c.if-ends-eq2.true, eq-eqb _ 1 c.if-ends-eq1.true, ne_eqb _ 2 c.if-ends-eq2-2.false)
+returns-else-two_bytes c = rw (eq-eqb _ 2 c.if-ends-eq2.true, eq-eqb _ 1 c.if-ends-eq1.true, ne_eqb _ 2 c.if-two_bytes.false)
 
 pub returns-else-ends-eq1 : goal.returns-else-ends-eq1
 unfolding right_ends

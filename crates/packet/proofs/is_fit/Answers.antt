@@ -22,12 +22,12 @@ returns-then-is_extended c =
     height_fits s.args.packet.now s.args.item s.requires.1 _ (c.is_in_reach.ensures ∙ ap (in_reach s.args.item.size) value)
     x.if-size-eq0.false (bytes_lent x.type_inv.packet) (sym (extended) ∙ c.if-is_extended.true)
 
-pub returns-then-size-ge128 : goal.returns-then-size-ge128
-returns-then-size-ge128 c =
+pub returns-then-long : goal.returns-then-long
+returns-then-long c =
     let extended : c.is_extended.result ≡ is_extended (one_byte c.args.item.tag) = c.is_extended.ensures ∙ ap is_extended c.one_byte-tag.ensures in
     let x = c in
     let s = x in
-    long_fits s.args.packet.now s.args.item s.requires.1 c.if-size-ge128.true (sym (extended) ∙ c.if-is_extended.false)
+    long_fits s.args.packet.now s.args.item s.requires.1 c.if-long.true (sym (extended) ∙ c.if-is_extended.false)
 
 pub bounds-column-tag : goal.bounds-column-tag
 bounds-column-tag c = let o = c in rw o.one_byte-tag.ensures (short_tag o.args.item.tag)
@@ -40,4 +40,4 @@ returns c =
     let o = x in
     let s = o in
     plain_fits s.args.packet.now s.args.item s.requires.1 _
-    (c.is_within.ensures ∙ rw (o.one_byte-tag.ensures, s.requires.0)) (omega (arith, k.if-size-ge128.false)) (sym (extended) ∙ k.if-is_extended.false)
+    (c.is_within.ensures ∙ rw (o.one_byte-tag.ensures, s.requires.0)) (omega (arith, k.if-long.false)) (sym (extended) ∙ k.if-is_extended.false)

@@ -41,7 +41,12 @@ keep-passed-requires c =
     let bytes : Bytes c.args.packet.now = record { byte = λ i. (c.type_inv.packet i).fits } in
     let seen : SeenAt c.args.packet.now c.loop-passed.passed.here c.glance_at-item.result = c.glance_at-item.ensures.0.item c.if-packet-item.false in
     let stepped : (w : TagSet) → (let l = c.loop-passed in let a = c.args in let K = set_of a.words.now in let g = c.glance_at-item.result in
-    Going K a.packet.now (kept_by a.from a.places.now (set_of a.present.now) w) (kept_by (passed_with K l.passed g) (set l.places g.tag g.place) (noted K (set_of l.present) g.tag g.fit) w)) = (λ w. let s = c in let l = c.loop-passed in let K = set_of s.args.words.now in let here = c in let g = c.glance_at-item in let i = g.result in subst (λ u. Going K s.args.packet.now (kept_by s.args.from s.args.places.now (set_of s.args.present.now) w) (kept_by (passed_with K l.passed i) (set l.places i.tag i.place) (noted K (set_of l.present) i.tag i.fit) u)) (noted_none K w i.tag i.empty g.ensures.1) (going_glance _ (good_means _ (two_set s.requires.1) s.requires.2) (two_set s.requires.1) _ (bytes) _ _ (l.invariant.1 w) (omega (arith, here.loop-passed-test.true)) here.if-passed-eq128.false _ g.ensures.0 c.if-packet-item.false)) in
+    Going K a.packet.now (kept_by a.from a.places.now (set_of a.present.now) w) (kept_by (passed_with K l.passed g) (set l.places g.tag g.place) (noted K (set_of l.present) g.tag g.fit) w)) =
+    (λ w. let s = c in let l = c.loop-passed in let K = set_of s.args.words.now in let here = c in let g = c.glance_at-item in let i = g.result in
+    subst (λ u. Going K s.args.packet.now (kept_by s.args.from s.args.places.now (set_of s.args.present.now) w) (kept_by (passed_with K l.passed i) (set l.places i.tag i.place) (noted K (set_of l.present) i.tag i.fit) u)) (noted_none K w i.tag i.empty g.ensures.1) (going_glance _ (good_means _ (two_set s.requires.1) s.requires.2) (two_set s.requires.1) _ (bytes) _ _ (l.invariant.1 w) (omega (
+      arith,
+      here.loop-passed-test.true,
+    )) here.if-passed-eq128.false _ g.ensures.0 c.if-packet-item.false)) in
     let e = c in
     let s = e in
     let l = e.loop-passed in
@@ -68,7 +73,12 @@ pub loop-passed-preserved : goal.loop-passed-preserved
 loop-passed-preserved c =
     let bytes : Bytes c.args.packet.now = record { byte = λ i. (c.type_inv.packet i).fits } in
     let stepped : (w : TagSet) → (let l = c.loop-passed in let a = c.args in let K = set_of a.words.now in let g = c.glance_at-item.result in
-    Going K a.packet.now (kept_by a.from a.places.now (set_of a.present.now) w) (kept_by (passed_with K l.passed g) (set l.places g.tag g.place) (noted K (set_of l.present) g.tag g.fit) w)) = (λ w. let s = c in let l = c.loop-passed in let K = set_of s.args.words.now in let here = c in let g = c.glance_at-item in let i = g.result in subst (λ u. Going K s.args.packet.now (kept_by s.args.from s.args.places.now (set_of s.args.present.now) w) (kept_by (passed_with K l.passed i) (set l.places i.tag i.place) (noted K (set_of l.present) i.tag i.fit) u)) (noted_none K w i.tag i.empty g.ensures.1) (going_glance _ (good_means _ (two_set s.requires.1) s.requires.2) (two_set s.requires.1) _ (bytes) _ _ (l.invariant.1 w) (omega (arith, here.loop-passed-test.true)) here.if-passed-eq128.false _ g.ensures.0 c.if-packet-item.false)) in
+    Going K a.packet.now (kept_by a.from a.places.now (set_of a.present.now) w) (kept_by (passed_with K l.passed g) (set l.places g.tag g.place) (noted K (set_of l.present) g.tag g.fit) w)) =
+    (λ w. let s = c in let l = c.loop-passed in let K = set_of s.args.words.now in let here = c in let g = c.glance_at-item in let i = g.result in
+    subst (λ u. Going K s.args.packet.now (kept_by s.args.from s.args.places.now (set_of s.args.present.now) w) (kept_by (passed_with K l.passed i) (set l.places i.tag i.place) (noted K (set_of l.present) i.tag i.fit) u)) (noted_none K w i.tag i.empty g.ensures.1) (going_glance _ (good_means _ (two_set s.requires.1) s.requires.2) (two_set s.requires.1) _ (bytes) _ _ (l.invariant.1 w) (omega (
+      arith,
+      here.loop-passed-test.true,
+    )) here.if-passed-eq128.false _ g.ensures.0 c.if-packet-item.false)) in
     let k = c.keep-passed.ensures in
     (k.two, λ w. rw (k.passed, k.found, k.tags) (stepped w))
 

@@ -19,7 +19,7 @@ apart-requires c =
     let value_fits : SFits w64 c.args.value = search rules in
     let value_small : mag c.args.value < 2 ^ 62 =
     (let i = c.args.item in let r = c.requires.rule in
-    inside_small i.low i.high c.args.value r.low_small r.high_small (neither_left (lt_z c.args.value i.low) _ c.requires.value_value) (neither_right (lt_z c.args.value i.low) _ c.requires.value_value)) in
+    inside_small i.low i.high c.args.value r.low_small r.high_small (neither_left (lt_z c.args.value i.low) _ c.requires.inside) (neither_right (lt_z c.args.value i.low) _ c.requires.inside)) in
     let origin_is : SFits w64 c.scale_of-s.result.origin = origin_fits c.args.item c.requires.rule c.scale_of-s.ensures in
     let b = c in
     let a = b in
@@ -33,8 +33,8 @@ rounded-far-requires c =
     (let b = c in rw (to_z-of_z (value_fits), to_z-of_z (origin_is), b.scale_of-s.ensures.from) at c.apart.ensures) in
     let b = c in
     let a = b in
-    let both = codes_round a.args.item a.requires.rule b.scale_of-s.ensures a.args.value a.requires.value_value in
-    rw (far_is) (record { q_nonzero = both.0; by_bound = both.1 })
+    let both = codes_round a.args.item a.requires.rule b.scale_of-s.ensures a.args.value a.requires.inside in
+    rw (far_is) (record { some_parts = both.0; product_fits = both.1 })
 
 pub turned-requires : goal.turned-requires
 turned-requires c =
@@ -49,7 +49,7 @@ turned-requires c =
     ) (codes_same a.args.item a.requires.rule b.scale_of-s.ensures (value_far a.args.item a.args.value))) in
     let b = c in
     let a = b in
-    rw (codes-away, b.scale_of-s.ensures.all_codes) (few_codes a.args.item a.requires.rule a.args.value a.requires.value_value)
+    rw (codes-away, b.scale_of-s.ensures.all_codes) (few_codes a.args.item a.requires.rule a.args.value a.requires.inside)
 
 pub returns-then-far-gt0 : goal.returns-then-far-gt0
 unfolding code_of

@@ -72,7 +72,9 @@ placed-requires c =
     let per : (1 * 2 ^ c.fineness-shift.result) % 18446744073709551616 ≡ per_two_metres c.args.length =
     (let n = c.args.length in rw (one-mul, c.fineness-shift.ensures) (mod-eq_of_lt (omega (arith, few_codes n lengths.1)))) in
     let half_is : c.half_of.result ≡ per_two_metres c.args.length / 2 = c.half_of.ensures ∙ ap (λ x. x / 2) (per) in
-    let units : let a = c in (a.args.code * 2000 + c.half_of.result) / 2 ^ c.fineness-shift.result ≡ nearest (a.args.code * 2000) (per_two_metres a.args.length) = (let a = c in rw (half_is, c.fineness-shift.ensures) (cut_with_half (a.args.code * 2000) (per_two_metres a.args.length) (some_codes a.args.length))) in
+    let units : let a = c in (a.args.code * 2000 + c.half_of.result) / 2 ^ c.fineness-shift.result
+    ≡ nearest (a.args.code * 2000) (per_two_metres a.args.length) =
+    (let a = c in rw (half_is, c.fineness-shift.ensures) (cut_with_half (a.args.code * 2000) (per_two_metres a.args.length) (some_codes a.args.length))) in
     let a = c in
     rw (units) (omega arith, omega (arith, shown_few a.args.length a.args.code a.requires))
 
@@ -85,6 +87,8 @@ returns c =
     let per : (1 * 2 ^ c.fineness-shift.result) % 18446744073709551616 ≡ per_two_metres c.args.length =
     (let n = c.args.length in rw (one-mul, c.fineness-shift.ensures) (mod-eq_of_lt (omega (arith, few_codes n lengths.1)))) in
     let half_is : c.half_of.result ≡ per_two_metres c.args.length / 2 = c.half_of.ensures ∙ ap (λ x. x / 2) (per) in
-    let units : let a = c in (a.args.code * 2000 + c.half_of.result) / 2 ^ c.fineness-shift.result ≡ nearest (a.args.code * 2000) (per_two_metres a.args.length) = (let a = c in rw (half_is, c.fineness-shift.ensures) (cut_with_half (a.args.code * 2000) (per_two_metres a.args.length) (some_codes a.args.length))) in
+    let units : let a = c in (a.args.code * 2000 + c.half_of.result) / 2 ^ c.fineness-shift.result
+    ≡ nearest (a.args.code * 2000) (per_two_metres a.args.length) =
+    (let a = c in rw (half_is, c.fineness-shift.ensures) (cut_with_half (a.args.code * 2000) (per_two_metres a.args.length) (some_codes a.args.length))) in
     let fits : SFits w64 c.placed.result = search rules in
     rw (to_z-of_z fits, c.placed.ensures, units)

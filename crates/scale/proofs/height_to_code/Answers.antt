@@ -36,8 +36,8 @@ height_code-requires c =
     let e = sym l.is_height_length.ensures ∙ n.if-is_height_length.true in
     rw (to_z-of_z (value_fits))
     record {
-      in_bounds = (leb-true 2 length (both_left (leb 2 length) _ e), leb-true length 4 (both_right (leb 2 length) _ e));
-      value_value =
+      lengths = (leb-true 2 length (both_left (leb 2 length) _ e), leb-true length 4 (both_right (leb 2 length) _ e));
+      inside =
           outside_is ∙ c.if-is_outside.false;
     }
 

@@ -14,25 +14,25 @@ use Rattle.scale.proofs.house_of.Goals as goal
 pub turned-far-requires : goal.turned-far-requires
 turned-far-requires c =
     let a = c in
-    omega (arith, number_fits a.args.item a.requires.rule a.args.code a.requires.code_value, c.scale_of-s.ensures.all_codes)
+    omega (arith, number_fits a.args.item a.requires.rule a.args.code a.requires.is_code, c.scale_of-s.ensures.all_codes)
 
 pub rounded-units-requires : goal.rounded-units-requires
 rounded-units-requires c =
     let below_is : c.is_below-below.result ≡ code_below c.args.item c.args.code =
     (let b = c in c.is_below-below.ensures ∙ below_same b.args.item b.requires.rule b.scale_of-s.ensures b.args.code) in
     let far_is : c.turned-far.result ≡ code_far c.args.item c.args.code = rw (c.turned-far.ensures, below_is, c.scale_of-s.ensures.all_codes) in
-    let few : code_far c.args.item c.args.code ≤ codes c.args.item = far_fits c.args.item c.requires.rule c.args.code c.requires.code_value in
+    let few : code_far c.args.item c.args.code ≤ codes c.args.item = far_fits c.args.item c.requires.rule c.args.code c.requires.is_code in
     let b = c in
     let a = b in
     let both = units_round a.args.item a.requires.rule b.scale_of-s.ensures (code_far a.args.item a.args.code) few in
-    rw (far_is) (record { q_nonzero = both.0; by_bound = both.1 })
+    rw (far_is) (record { some_parts = both.0; product_fits = both.1 })
 
 pub placed-requires : goal.placed-requires
 placed-requires c =
     let below_is : c.is_below-below.result ≡ code_below c.args.item c.args.code =
     (let b = c in c.is_below-below.ensures ∙ below_same b.args.item b.requires.rule b.scale_of-s.ensures b.args.code) in
     let far_is : c.turned-far.result ≡ code_far c.args.item c.args.code = rw (c.turned-far.ensures, below_is, c.scale_of-s.ensures.all_codes) in
-    let few : code_far c.args.item c.args.code ≤ codes c.args.item = far_fits c.args.item c.requires.rule c.args.code c.requires.code_value in
+    let few : code_far c.args.item c.args.code ≤ codes c.args.item = far_fits c.args.item c.requires.rule c.args.code c.requires.is_code in
     let units-away : let a = c in c.rounded-units.result ≡ units_away a.args.item a.args.code =
     (let b = c in let a = b in rw (
       c.rounded-units.ensures,

@@ -40,7 +40,7 @@ two_sided-requires c =
       rw (origin_signed item r e) at r.high_above,
     )) in
     let both = signed_needs (ap is_signed c.in-Signed.is) in
-    record { le_codes = both.0; pos_value = both.1 }
+    record { two_codes = both.0; high_from_zero = both.1 }
 
 pub two_sided-requires-in-Marked : goal.two_sided-requires-in-Marked
 two_sided-requires-in-Marked c =
@@ -51,7 +51,7 @@ two_sided-requires-in-Marked c =
       rw (origin_signed item r e) at r.high_above,
     )) in
     let both = signed_needs (ap is_signed c.in-Marked.is) in
-    record { le_codes = both.0; pos_value = both.1 }
+    record { two_codes = both.0; high_from_zero = both.1 }
 
 pub returns-in-Unsigned : goal.returns-in-Unsigned
 returns-in-Unsigned c =

@@ -44,7 +44,7 @@ code_of-requires c =
     sym (rw (to_z-of_z low, to_z-of_z high, to_z-of_z (value_fits)) at c.is_outside.ensures)) in
     let n = c in
     let k = n in
-    rw (to_z-of_z (value_fits)) record { rule = scaled_rule (has_scale); value_value = outside_is ∙ c.if-is_outside.false }
+    rw (to_z-of_z (value_fits)) record { rule = scaled_rule (has_scale); inside = outside_is ∙ c.if-is_outside.false }
 
 pub returns-else-is_outside : goal.returns-else-is_outside
 returns-else-is_outside c =

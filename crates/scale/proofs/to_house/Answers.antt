@@ -26,7 +26,7 @@ is_number-requires c =
 pub house_of-requires : goal.house_of-requires
 house_of-requires c =
     let has_scale : Scaled c.args.tag c.in-Known.item = scaled_known _ _ (sym c.scaled_item.ensures ∙ c.in-Known.is) in
-    record { rule = scaled_rule (has_scale); code_value = sym c.is_number.ensures ∙ c.if-is_number.true }
+    record { rule = scaled_rule (has_scale); is_code = sym c.is_number.ensures ∙ c.if-is_number.true }
 
 pub returns-then-is_number : goal.returns-then-is_number
 returns-then-is_number c =

@@ -9,4 +9,4 @@ use Rattle.scale.proofs.two_sided.Goals as goal
 pub overflow_cast-result : goal.overflow_cast-result
 overflow_cast-result c =
     let fits : SFits w64 c.args.high = search rules in
-    rw (to_z-of_z fits) (natural _ fits c.requires.pos_value)
+    rw (to_z-of_z fits) (natural _ fits c.requires.high_from_zero)
