@@ -1,6 +1,6 @@
 -- Document 01, Rows: "The writer, besides words, takes its rows as a lent list of records." The word image of a record.
 use Rattle.std.specs.Prelude.{ℕ, zero, suc, ◌+◌, ◌*◌, ◌^◌, Bool, cond, ◌&&◌, List, [], ◌∷◌, ltb, eqb, length, get_or, replicate}
-use Rattle.std.proofs.lemmas.List.Edits.{sets}
+use lib.Seq.{sets}
 use Rattle.catalogue.specs.Shapes.{shape_of}
 use Rattle.catalogue.specs.declared.Shape.{Shape}
 use Rattle.catalogue.specs.declared.Shape.TheVariants.{Text, Number, Absent}

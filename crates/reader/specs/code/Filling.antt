@@ -1,7 +1,7 @@
 -- The shadow of the code, not to be believed but proved to be what document 01's definitions give: how a table is filled.
 use Rattle.std.specs.Prelude.{ℕ, ◌+◌, ◌-◌, ◌*◌, ◌/◌, ◌%◌, ◌^◌, ◌≤◌, ◌≡◌, Bool, true, cond, List, [], ◌∷◌, eqb}
 use Rattle.std.specs.Int.Bits.{bit_and}
-use Rattle.std.proofs.lemmas.List.Edits.{sets}
+use lib.Seq.{sets}
 use Rattle.refusal.specs.Answer.{Answer, given, or_else}
 use Rattle.tagset.specs.declared.TagSet.{TagSet}
 use Rattle.catalogue.specs.code.Column.{shape_mask}
