@@ -1,7 +1,7 @@
 #!/usr/bin/env python3
 """Respells the repository's own definitions and lemmas: words in snake case, as `shapeOf` to `shape_of` and `low-fits` to `low_fits`.
 
-usage: python3 tools/spellings.py   at the top of the repository, once, after /opt/rattle/port/port.py (docs/PORT.md names both commits)
+usage: python3 tools/spellings.py   at the top of the repository, once, after the kit's port.py (docs/PORT.md names both commits)
 
 What turns: names that the files of specs/ and proofs/ declare, in these files, in the clauses of src/, in must-fail edits and in code spans of the pages.
 A definition and a lemma that would fall together: the definition gets the plain name and the lemma keeps its dash, which joins the names it is about.

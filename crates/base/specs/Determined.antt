@@ -27,7 +27,7 @@ module _ (n : ℕ) (ps : List (ParamKind n)) (r : ResultKind n) (contract : Out 
       (κs : Lfts n) (a : Dens κs ps) (z z' : (res_t r κs).Denot) (e e' : AtExit (ended_of n ps r) κs)
       → contract κs a z e → contract κs a z' e' → seen κs z ≡ seen κs z'
 
--- of a function that is proved by hand: what its contract says of an outcome is the fact `said`
+-- of a function that holds references: what its contract says of an outcome is the fact `said`
 abbrev pub Says : {M : Type 1} (𝓤 : Ura M) (T : Ended) → Clauses 𝓤 T
     → ((κs : Lfts T.signature.lifetimes) → Args T.signature κs → Res T.signature κs → AtExit T κs → Type 0) → Type 2
 Says 𝓤 T contract said =

@@ -1,4 +1,4 @@
--- src/lib.rt:641:8
+-- `packet::begun` meets its contract.
 use mathlib.Core.Path.{sym, ◌∙◌}
 use Rattle.packet.proofs.begun.Goals as goal
 

@@ -1,4 +1,4 @@
--- src/lib.rt:257:5
+-- `packet::longer_by` meets its contract.
 use native.Mathlib.Omega.{arith}
 use Rattle.packet.proofs.longer_by.Goals as goal
 

@@ -1,4 +1,4 @@
--- src/lib.rt:247:9
+-- `packet::one_byte` meets its contract.
 use borrow.Author.Tests.{lt-ltb, le-ltb}
 use Rattle.packet.proofs.one_byte.Goals as goal
 
