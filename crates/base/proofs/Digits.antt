@@ -2,11 +2,10 @@
 -- Assumes nothing.
 use Prim.Native.Nat.{ℕ, zero, suc, ◌+◌, ◌*◌, ◌-◌, ◌/◌, ◌%◌, ◌^◌, ◌<◌, ◌≤◌}
 use native.Mathlib.Omega.{arith}
-use native.Mathlib.Nat.{pow-zero, pow-suc, pow-succ', one-le-pow, add_assoc, add-mul, mul_assoc, div-div-eq-div-mul}
-use mathlib.Core.Path.{◌≡◌, refl, ap, sym, ◌∙◌}
-use mathlib.Core.List.{List, [], ◌++◌, append-nil}
+use native.Mathlib.Nat.{pow-suc, pow-succ', one-le-pow, add_assoc, add-mul, mul_assoc, div-div-eq-div-mul}
+use mathlib.Core.Path.{◌≡◌, refl, ap, ◌∙◌}
+use mathlib.Core.List.{List, ◌++◌}
 use lib.ListN.{length, take, set, length-set}
-use lib.Seq.{take-length}
 use lib.Arith.{mod-mul}
 use Rattle.base.specs.Digits.{digits_in}
 use Rattle.base.proofs.Parts.{set_before}
@@ -31,16 +30,6 @@ pub record Filling (base : ℕ) (shown : ℕ → ℕ) (o : List ℕ) (x : ℕ) (
   pub kept : length out ≡ length o
 
 module _ {base : ℕ} {shown : ℕ → ℕ} {o : List ℕ} {x : ℕ} where
-  pub fill_start : Filling base shown o x o x (length o)
-  fill_start =
-      let e : length o - length o ≡ 0 = omega arith in
-      record {
-        few = omega arith;
-        rest = rw (e, pow-zero) (omega arith);
-        filled = sym (rw e (ap (λ l. l ++ []) (take-length o) ∙ append-nil o));
-        kept = refl;
-      }
-
   module _ {out : List ℕ} {left i : ℕ} (f : Filling base shown o x out left i) where
     pub fill_next : 0 < i → Filling base shown o x (set out (i - 1) (shown (left % base))) (left / base) (i - 1)
     fill_next h =

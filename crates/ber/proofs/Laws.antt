@@ -16,7 +16,7 @@ use Rattle.number.proofs.Laws.{bytes_none, bytes_cons, bytes_tail, bytes_take, b
 use Rattle.ber.specs.Read.{Read, got, broken, tag_third, tag_second, read_tag, read_length}
 use Rattle.ber.specs.Seen.{seen}
 use Rattle.ber.specs.declared.Field.{Field}
-use Rattle.ber.specs.declared.Field.TheVariants.{Is, Broken}
+use Rattle.std.specs.Prelude.{Option, Some, None}
 use Rattle.ber.specs.Written.{tag_bytes, long, length_bytes}
 use Rattle.ber.specs.Forms.{LengthForm, short_form, long_form}
 use Rattle.ber.proofs.Forms.{tag_one, tag_two, tag_three, length_one, length_two, length_three, length_four, length_five}
@@ -307,8 +307,11 @@ form_ends (long_form (d ∷ ds) some few) by small =
     ap (λ j. get_or ((128 + suc (length ds)) ∷ d ∷ ds) j 0) e ∙ (sym (value_ends 0 d ds (bytes_tail by)) ∙ mod-eq_of_lt small)
 
 -- what an answer says tells any two answers apart
-pub seen_apart : (a b : Field) → seen a ≡ seen b → a ≡ b
-seen_apart (Is v s) (Is w t) e = cc
-seen_apart (Is v s) Broken e = let z : ◌≡◌ {A = ℕ} 0 1 = cc in absurd (omega arith)
-seen_apart Broken (Is w t) e = let z : ◌≡◌ {A = ℕ} 0 1 = cc in absurd (omega arith)
-seen_apart Broken Broken e = refl
+pub seen_apart : (a b : Option Field) → seen a ≡ seen b → a ≡ b
+seen_apart (Some f) (Some g) e =
+    let v : f.value ≡ g.value = cc in
+    let s : f.size ≡ g.size = cc in
+    ap₂ (λ x n. Some (record { value = x; size = n })) v s
+seen_apart (Some f) None e = let z : ◌≡◌ {A = ℕ} 0 1 = cc in absurd (omega arith)
+seen_apart None (Some g) e = let z : ◌≡◌ {A = ℕ} 0 1 = cc in absurd (omega arith)
+seen_apart None None e = refl

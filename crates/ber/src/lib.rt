@@ -9,117 +9,119 @@ ghost use Rattle.base.specs.Putting.{Puts};
 ghost use Rattle.ber.specs.Written.{tag_bytes, length_bytes};
 ghost use Rattle.ber.specs.Seen.{seen};
 
-// What stands at a place: a number and how many bytes it takes, or nothing that may stand there, cut or forbidden.
-#[derive(Clone, Copy)]
-pub enum Field {
-    Is { value: u64, size: usize },
-    Broken,
+// A number that stands at a place, and how many bytes it takes. Where what stands there is cut or forbidden, there is none.
+#[derive(Clone, Copy, Debug, PartialEq, Eq)]
+pub struct Field {
+    pub value: u64,
+    pub size: usize,
 }
 
-pub fn tag_at(s: &[u8], at: usize) -> Field
+pub fn tag_at(s: &[u8], at: usize) -> Option<Field>
     ensures { seen result ≡ read_tag (drop at s.now) }
 {
     if s.len() <= at {
-        return Field::Broken;
+        return None;
     }
-    let a = number::wide(s[at]);
+    let a = u64::from(s[at]);
     if a < 128 {
         let some = 0 < a;
         if some {
-            return Field::Is { value: a, size: 1 };
+            return Some(Field { value: a, size: 1 });
         }
-        return Field::Broken;
+        return None;
     }
     if a <= 128 {
-        return Field::Broken;
+        return None;
     }
     tag_second_at(s, at + 1, a - 128)
 }
 
 // The second byte, where the first says high.
-fn tag_second_at(s: &[u8], at: usize, high: u64) -> Field
+fn tag_second_at(s: &[u8], at: usize, high: u64) -> Option<Field>
     requires { high < 128 }
     ensures { seen result ≡ tag_second high (drop at s.now) }
 {
     if s.len() <= at {
-        return Field::Broken;
+        return None;
     }
-    let b = number::wide(s[at]);
+    let b = u64::from(s[at]);
     if b < 128 {
-        return Field::Is {
+        return Some(Field {
             value: high * 128 + b,
             size: 2,
-        };
+        });
     }
     tag_third_at(s, at + 1, high * 128 + (b - 128))
 }
 
-// The third byte, which must be the last, where the two before say high.
-fn tag_third_at(s: &[u8], at: usize, high: u64) -> Field
+// The third byte, which must be the last, where the two before say high. It and the second differ in what follows, so one function for both would
+// ask which it is.
+fn tag_third_at(s: &[u8], at: usize, high: u64) -> Option<Field>
     requires { high < 16384 }
     ensures { seen result ≡ tag_third high (drop at s.now) }
 {
     if s.len() <= at {
-        return Field::Broken;
+        return None;
     }
-    let c = number::wide(s[at]);
+    let c = u64::from(s[at]);
     if c < 128 {
-        return Field::Is {
+        return Some(Field {
             value: high * 128 + c,
             size: 3,
-        };
+        });
     }
-    Field::Broken
+    None
 }
 
-// The number that one to four bytes at a place say, one after another: a length has so few.
+// The number that one to four bytes at a place say, one after another: a length has so few, and a loop takes longer (docs/SPEED.md).
 fn few_at(s: &[u8], at: usize, count: usize) -> u64
     requires { (0 < count) × (count ≤ 4) × (at + count ≤ length s.now) }
     ensures { result ≡ value_of (take count (drop at s.now)) }
 {
-    let one = number::wide(s[at]);
+    let one = u64::from(s[at]);
     if count == 1 {
         return one;
     }
-    let two = one * 256 + number::wide(s[at + 1]);
+    let two = one * 256 + u64::from(s[at + 1]);
     if count == 2 {
         return two;
     }
-    let three = two * 256 + number::wide(s[at + 2]);
+    let three = two * 256 + u64::from(s[at + 2]);
     if count == 3 {
         return three;
     }
-    three * 256 + number::wide(s[at + 3])
+    three * 256 + u64::from(s[at + 3])
 }
 
-pub fn length_at(s: &[u8], at: usize) -> Field
+pub fn length_at(s: &[u8], at: usize) -> Option<Field>
     ensures { seen result ≡ read_length (drop at s.now) }
 {
     if s.len() <= at {
-        return Field::Broken;
+        return None;
     }
-    let a = number::wide(s[at]);
+    let a = u64::from(s[at]);
     if a < 128 {
-        return Field::Is { value: a, size: 1 };
+        return Some(Field { value: a, size: 1 });
     }
     if a <= 128 {
-        return Field::Broken;
+        return None;
     }
     if 132 < a {
-        return Field::Broken;
+        return None;
     }
     let from = at + 1;
     let count = (a - 128) as usize;
     if s.len() - from < count {
-        return Field::Broken;
+        return None;
     }
-    Field::Is {
+    Some(Field {
         value: few_at(s, from, count),
         size: count + 1,
-    }
+    })
 }
 
-// The bytes of a tag or a length as one number, and how many they are: none for what has no form.
+// The bytes of a tag or a length as one number, and how many they are: none for what has no form. No `Option`: what has no form has a size too, 0
+// bytes of it are put, and both who ask for the size and who put would make that 0 of a `None`.
 #[derive(Clone, Copy)]
 struct Form {
     size: usize,
@@ -235,10 +237,8 @@ pub fn length_size(x: u64) -> usize
 pub fn put_tag(out: &mut [u8], at: usize, tag: u64) -> usize
     ensures { Puts out.old at (tag_bytes tag) result out.new }
 {
-    if 0 < tag {
-        if tag < 128 {
-            return put_short(out, at, tag);
-        }
+    if 0 < tag && tag < 128 {
+        return put_short(out, at, tag);
     }
     put_form(out, at, tag_form(tag))
 }

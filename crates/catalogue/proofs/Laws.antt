@@ -21,9 +21,9 @@ use Rattle.catalogue.specs.Items.{Group, groups, member, in_groups, item_in, ite
 use Rattle.catalogue.specs.Corners.{is_offset, is_full, is_corner, corner_row}
 use Rattle.catalogue.specs.Rows.{rows_from, rows, entry_at, all_tags, item_by}
 use Rattle.catalogue.specs.declared.Entry.{Entry}
-use Rattle.catalogue.specs.declared.Found.TheVariants.{Known, Absent}
-use Rattle.catalogue.specs.declared.Unit.TheVariants.{None}
+use Rattle.catalogue.specs.declared.Unit.TheVariants as unit
 use Rattle.catalogue.proofs.Same.{same_found, same-found}
+use Rattle.std.specs.Prelude.{Some, None}
 
 -- no tag from 128 on is in any group
 below128 : Group → Bool
@@ -46,13 +46,13 @@ none_in none say [] t e h = refl
 none_in none say (g ∷ gs) t e h =
     rw (not_member t g.tags (both_left (below128 g) _ e) h) (none_in none say gs t (both_right (below128 g) _ e) h)
 
-pub item_beyond : (t : ℕ) → 128 ≤ t → item_of t ≡ Absent
+pub item_beyond : (t : ℕ) → 128 ≤ t → item_of t ≡ None
 unfolding item_of item_in
-item_beyond t h = none_in Absent _ groups t groups_below h
+item_beyond t h = none_in None _ groups t groups_below h
 
-pub unit_beyond : (t : ℕ) → 128 ≤ t → unit_of t ≡ None
+pub unit_beyond : (t : ℕ) → 128 ≤ t → unit_of t ≡ unit.None
 unfolding unit_of
-unit_beyond t h = none_in None _ groups t groups_below h
+unit_beyond t h = none_in unit.None _ groups t groups_below h
 
 -- a whole number of 64 bits
 unfoldable pub small : ℤ → Bool
@@ -64,13 +64,13 @@ small_fits z e = record { sfits = ltb-true _ _ e }
 
 -- each tag below 128: in the set exactly where there is an item, whose row stands at its place in the table
 right_row : Entry → ℕ → Bool
-right_row e t = small e.3 && (small e.4 && (small (e.3 +ℤ e.4) && same_found (Known (item_by e)) (item_of t)))
+right_row e t = small e.3 && (small e.4 && (small (e.3 +ℤ e.4) && same_found (Some (item_by e)) (item_of t)))
 
 placed : ℕ → Bool
 placed t =
     cond (holds all_tags t)
     (ltb (count_below all_tags t) 67 && right_row (entry_at (count_below all_tags t)) t)
-    (same_found Absent (item_of t))
+    (same_found None (item_of t))
 
 all_placed : all_below placed 128 ≡ true
 unfolding placed right_row small holds count_below all_tags groups member item_in item_of rows_from rows
@@ -84,7 +84,7 @@ pub record Right (t : ℕ) (e : Entry) : Type 0 where
   pub low_fits : SFits w64 e.3
   pub high_fits : SFits w64 e.4
   pub sum_fits : SFits w64 (e.3 +ℤ e.4)
-  pub item : Known (item_by e) ≡ item_of t
+  pub item : Some (item_by e) ≡ item_of t
 
 right-row : (t : ℕ) (e : Entry) → right_row e t ≡ true → Right t e
 unfolding right_row
@@ -115,11 +115,11 @@ item_held t e =
     })
     (λ h. clash (sym e ∙ holds_none all_tags all_words t h))
 
-pub item_none : (t : ℕ) → holds all_tags t ≡ false → item_of t ≡ Absent
+pub item_none : (t : ℕ) → holds all_tags t ≡ false → item_of t ≡ None
 unfolding placed
 item_none t e =
     by_lt t 128
-    (λ h. sym (same-found Absent (item_of t) (rw e at (all-below placed 128 all_placed t h))))
+    (λ h. sym (same-found None (item_of t) (rw e at (all-below placed 128 all_placed t h))))
     (λ h. item_beyond t h)
 
 -- W-205: a corner's row by the pattern tells the item that the groups have

@@ -10,8 +10,7 @@ use Rattle.base.proofs.Every.{both_left, both_right}
 use Rattle.catalogue.specs.declared.Sign.{Sign}
 use Rattle.catalogue.specs.declared.Sign.TheVariants.{Unsigned, Signed, Marked}
 use Rattle.catalogue.specs.declared.Item.{Item}
-use Rattle.catalogue.specs.declared.Found.{Found}
-use Rattle.catalogue.specs.declared.Found.TheVariants.{Known, Absent}
+use Rattle.std.specs.Prelude.{Option, Some, None}
 
 abbrev pub same_whole : ℤ → ℤ → Bool
 same_whole (pos m) (pos n) = eqb m n
@@ -64,14 +63,14 @@ same-item a b e =
     let high = same-whole a.high b.high (both_right (same_whole a.low b.low) _ e₃) in
     λ i. record { tag = tag i; width = width i; sign = sign i; low = low i; high = high i }
 
-abbrev pub same_found : Found → Found → Bool
-same_found (Known a) (Known b) = same_item a b
-same_found (Known a) Absent = false
-same_found Absent (Known b) = false
-same_found Absent Absent = true
+abbrev pub same_found : Option Item → Option Item → Bool
+same_found (Some a) (Some b) = same_item a b
+same_found (Some a) None = false
+same_found None (Some b) = false
+same_found None None = true
 
-pub same-found : (a b : Found) → same_found a b ≡ true → a ≡ b
-same-found (Known a) (Known b) e = ap Known (same-item a b e)
-same-found (Known a) Absent e = clash (sym e)
-same-found Absent (Known b) e = clash (sym e)
-same-found Absent Absent e = refl
+pub same-found : (a b : Option Item) → same_found a b ≡ true → a ≡ b
+same-found (Some a) (Some b) e = ap Some (same-item a b e)
+same-found (Some a) None e = clash (sym e)
+same-found None (Some b) e = clash (sym e)
+same-found None None e = refl

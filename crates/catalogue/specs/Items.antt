@@ -1,11 +1,10 @@
 -- Document 01, Catalogue: the items, in the document's own groups.
-use Rattle.std.specs.Prelude.{ℕ, ◌*◌, Bool, false, cond, ◌||◌, List, [], ◌∷◌, eqb, ℤ, pos, neg_ℤ}
+use Rattle.std.specs.Prelude.{ℕ, ◌*◌, Bool, false, cond, ◌||◌, List, [], ◌∷◌, eqb, ℤ, pos, neg_ℤ, Option, Some}
 use Rattle.catalogue.specs.declared.Sign.{Sign}
 use Rattle.catalogue.specs.declared.Sign.TheVariants.{Unsigned, Signed, Marked}
-use Rattle.catalogue.specs.declared.Found.{Found}
-use Rattle.catalogue.specs.declared.Found.TheVariants.{Known, Absent}
 use Rattle.catalogue.specs.declared.Unit.{Unit}
 use Rattle.catalogue.specs.declared.Unit.TheVariants.{None, Degree, Metre, MetrePerSecond, Millibar, Percent, Celsius, Microsecond}
+use Rattle.catalogue.specs.declared.Item.{Item}
 
 -- items that are stored alike: so many bytes (0 where that is not fixed), with or without sign, from low to high in house units of the unit
 pub record Group : Type 0 where
@@ -80,11 +79,11 @@ abbrev pub in_groups : {A : Type 0} → A → (Group → A) → List Group → �
 in_groups none say [] t = none
 in_groups none say (g ∷ gs) t = cond (member t g.tags) (say g) (in_groups none say gs t)
 
-unfoldable pub item_in : List Group → ℕ → Found
-item_in gs t = in_groups Absent (λ g. Known (record { tag = t; width = g.width; sign = g.sign; low = g.low; high = g.high })) gs t
+unfoldable pub item_in : List Group → ℕ → Option Item
+item_in gs t = in_groups Option.None (λ g. Some (record { tag = t; width = g.width; sign = g.sign; low = g.low; high = g.high })) gs t
 
 -- what the catalogue has for a tag
-unfoldable pub item_of : ℕ → Found
+unfoldable pub item_of : ℕ → Option Item
 item_of t = item_in groups t
 
 -- what a tag's values count; nothing where the catalogue has no such tag

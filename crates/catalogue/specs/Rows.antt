@@ -1,13 +1,11 @@
 -- The fixed table: a row for each item, in the order of the tags.
-use Rattle.std.specs.Prelude.{ℕ, zero, suc, ◌+◌, ◌/◌, ◌%◌, ◌^◌, Bool, true, false, cond, List, [], ◌∷◌, eqb, ℤ, pos, negsuc, ◌+ℤ◌, get_or}
+use Rattle.std.specs.Prelude.{ℕ, zero, suc, ◌+◌, ◌/◌, ◌%◌, ◌^◌, Bool, true, false, cond, List, [], ◌∷◌, eqb, ℤ, pos, negsuc, ◌+ℤ◌, get_or, Option, Some, None}
 use Rattle.tagset.specs.declared.TagSet.{TagSet}
 use Rattle.catalogue.specs.Items.{item_of}
 use Rattle.catalogue.specs.declared.Sign.{Sign}
 use Rattle.catalogue.specs.declared.Sign.TheVariants.{Unsigned, Signed, Marked}
 use Rattle.catalogue.specs.declared.Item.{Item}
 use Rattle.catalogue.specs.declared.Entry.{Entry}
-use Rattle.catalogue.specs.declared.Found.{Found}
-use Rattle.catalogue.specs.declared.Found.TheVariants.{Known, Absent}
 
 abbrev pub is_signed : Sign → Bool
 is_signed Unsigned = false
@@ -15,9 +13,9 @@ is_signed Signed = true
 is_signed Marked = true
 
 -- an item's row, in front of the rows after it
-abbrev pub onto : Found → List Entry → List Entry
-onto (Known i) es = (i.tag, i.width, is_signed i.sign, i.low, i.high) ∷ es
-onto Absent es = es
+abbrev pub onto : Option Item → List Entry → List Entry
+onto (Some i) es = (i.tag, i.width, is_signed i.sign, i.low, i.high) ∷ es
+onto None es = es
 
 -- of n tags from t on
 unfoldable pub rows_from : ℕ → ℕ → List Entry

@@ -1,13 +1,11 @@
 -- Which lengths and which codes an item allows.
-use Rattle.std.specs.Prelude.{ℕ, Bool, true, false, not, cond, ◌&&◌, ◌||◌, ltb, leb, eqb}
+use Rattle.std.specs.Prelude.{ℕ, Bool, true, false, not, cond, ◌&&◌, ◌||◌, ltb, leb, eqb, Option, Some, None}
 use Rattle.std.specs.Int.Signed.{lt_z}
 use Rattle.catalogue.specs.Items.{item_of}
 use Rattle.catalogue.specs.Extended.{is_extended, in_reach}
 use Rattle.catalogue.specs.declared.Item.{Item}
 use Rattle.catalogue.specs.declared.Sign.{Sign}
 use Rattle.catalogue.specs.declared.Sign.TheVariants.{Unsigned, Signed, Marked}
-use Rattle.catalogue.specs.declared.Found.{Found}
-use Rattle.catalogue.specs.declared.Found.TheVariants.{Known}
 use Rattle.catalogue.specs.declared.Shape.{Shape}
 use Rattle.catalogue.specs.declared.Shape.TheVariants.{Text, Number}
 
@@ -20,9 +18,9 @@ is_marked Marked = true
 abbrev pub unfixed : Item → Shape
 unfixed i = cond (lt_z i.low i.high) (Number 2 4 false) Text
 
-abbrev pub shape_by : Found → Shape
-shape_by (Known i) = cond (eqb i.width 0) (unfixed i) (Number i.width i.width (is_marked i.sign))
-shape_by Found.Absent = Shape.Absent
+abbrev pub shape_by : Option Item → Shape
+shape_by (Some i) = cond (eqb i.width 0) (unfixed i) (Number i.width i.width (is_marked i.sign))
+shape_by None = Shape.Absent
 
 unfoldable pub shape_of : ℕ → Shape
 shape_of t = shape_by (item_of t)

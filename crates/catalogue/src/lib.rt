@@ -5,13 +5,13 @@
 ghost use Rattle.std.specs.Prelude.{◌≡◌, ◌||◌, eqb, ltb};
 ghost use Rattle.catalogue.specs.Rows.{all_tags};
 ghost use Rattle.catalogue.specs.Extended.{is_extended, in_reach};
-ghost use Rattle.catalogue.specs.Shapes.{shape_allows, is_empty, is_needed, size_allowed, codes_limited, code_allowed};
+ghost use Rattle.catalogue.specs.Shapes.{shape_of, shape_allows, is_empty, is_needed, size_allowed, codes_limited, code_allowed};
 ghost use Rattle.catalogue.specs.code.Column.{shape_column, mask_column, shape_in};
 
 use tagset::TagSet;
 
 // How the codes of a number are read: as they stand, in two's complement, or in two's complement with the lowest one a mark.
-#[derive(Clone, Copy)]
+#[derive(Clone, Copy, Debug, PartialEq, Eq)]
 pub enum Sign {
     Unsigned,
     Signed,
@@ -20,7 +20,7 @@ pub enum Sign {
 
 // An item. Width is in bytes, 0 where it is not fixed: for text, which has no scale, and for an extended height (W-202), which has one.
 // Low equals high where there is no scale.
-#[derive(Clone, Copy)]
+#[derive(Clone, Copy, Debug, PartialEq, Eq)]
 pub struct Item {
     pub tag: u64,
     pub width: usize,
@@ -29,14 +29,8 @@ pub struct Item {
     pub high: i64,
 }
 
-#[derive(Clone, Copy)]
-pub enum Found {
-    Known(Item),
-    Absent,
-}
-
 // What a value in house units counts. None for texts and for numbers whose code is all there is; item 2's code counts microseconds.
-#[derive(Clone, Copy)]
+#[derive(Clone, Copy, Debug, PartialEq, Eq)]
 pub enum Unit {
     None,
     Degree,
@@ -49,7 +43,7 @@ pub enum Unit {
 }
 
 // How a value is stored: as text, or as a number of at least and at most so many bytes, whose lowest code is a mark or not.
-#[derive(Clone, Copy)]
+#[derive(Clone, Copy, Debug, PartialEq, Eq)]
 pub enum Shape {
     Text,
     Number {
@@ -62,7 +56,7 @@ pub enum Shape {
 
 // A row of the table: tag, width, whether it is signed, low and high.
 // A signed number from -high to high has a mark; 39 is the one that has none.
-#[derive(Clone, Copy)]
+#[derive(Clone, Copy, Debug, PartialEq, Eq)]
 pub struct Entry(pub u64, pub usize, pub bool, pub i64, pub i64);
 
 // The tags of all rows.
@@ -89,11 +83,26 @@ const COLUMN: [u8; 128] = *b"\
     \x40\x40\x40\x40\x40\x40\x40\x40\x40\x40\x40\x40\x40\x40\x40\x40\
 ";
 
-// The shapes of all tags below 128, named once at the top and lent to `shape_at`.
-pub fn shapes() -> [u8; 128]
-    ensures { result ≡ shape_column }
+// The shapes of all tags below 128, named once at the top of a walk and lent to what looks one up.
+#[derive(Clone, Copy)]
+pub struct ShapeColumn {
+    pub column: [u8; 128],
+    ghost of_the_catalogue: { column ≡ shape_column },
+}
+
+pub fn shapes() -> ShapeColumn
+    ensures { result.column ≡ shape_column }
 {
-    COLUMN
+    ShapeColumn { column: COLUMN }
+}
+
+impl ShapeColumn {
+    // The shape that the catalogue has for a tag.
+    pub fn of(&self, tag: u64) -> Shape
+        ensures { result ≡ shape_of tag }
+    {
+        shape_at(&self.column, tag)
+    }
 }
 
 // For a glance at a length of one byte, a mask within which every right one lies: the width of a number, which is a power of two, so that no
@@ -110,11 +119,17 @@ const MASKS: [u8; 128] = *b"\
     \x7f\x7f\x7f\x7f\x7f\x7f\x7f\x7f\x7f\x7f\x7f\x7f\x7f\x7f\x7f\x7f\
 ";
 
-// The masks of all tags below 128.
-pub fn length_masks() -> [u8; 128]
-    ensures { result ≡ mask_column }
+// The masks of all tags below 128, in the same way.
+#[derive(Clone, Copy)]
+pub struct MaskColumn {
+    pub column: [u8; 128],
+    ghost of_the_catalogue: { column ≡ mask_column },
+}
+
+pub fn length_masks() -> MaskColumn
+    ensures { result.column ≡ mask_column }
 {
-    MASKS
+    MaskColumn { column: MASKS }
 }
 
 // The shape that a column of shapes has for a tag. The lengths of an extended height go by its tag, so that all else is seen to have one; from 128
@@ -133,7 +148,7 @@ pub fn shape_at(column: &[u8; 128], tag: u64) -> Shape
         return Shape::Absent;
     }
     let at = tag as usize;
-    let byte = number::wide(column[at]);
+    let byte = u64::from(column[at]);
     let kind = byte / 16 % 8;
     if kind == 4 {
         return Shape::Absent;
@@ -154,25 +169,13 @@ pub fn allows_length(shape: Shape, n: usize) -> bool
     ensures { result ≡ shape_allows shape n }
 {
     match shape {
-        Shape::Text => {
-            if 0 < n {
-                return n < 128;
-            }
-            false
-        }
-        Shape::Number {
-            least,
-            most,
-            marked: _,
-        } => {
+        Shape::Text => 0 < n && n < 128,
+        Shape::Number { least, most, .. } => {
             // most numbers have one length
             if n == most {
                 return least <= n;
             }
-            if least <= n {
-                return n < most;
-            }
-            false
+            least <= n && n < most
         }
         Shape::Absent => false,
     }
@@ -182,30 +185,14 @@ pub fn allows_length(shape: Shape, n: usize) -> bool
 pub fn is_empty(shape: Shape, n: usize) -> bool
     ensures { result ≡ is_empty shape n }
 {
-    if n == 0 {
-        return match shape {
-            Shape::Text => true,
-            Shape::Number {
-                least: _,
-                most: _,
-                marked: _,
-            } => true,
-            Shape::Absent => false,
-        };
-    }
-    false
+    n == 0 && !matches!(shape, Shape::Absent)
 }
 
 // Whether an item is one that no packet is without: these are never withdrawn.
 pub fn is_needed(tag: u64) -> bool
     ensures { result ≡ is_needed tag }
 {
-    match tag {
-        1 => true,
-        2 => true,
-        65 => true,
-        _ => false,
-    }
+    tag == 1 || tag == 2 || tag == 65
 }
 
 // Whether a known item may have n bytes: those of its shape, or none.
@@ -222,45 +209,28 @@ pub fn allows_size(tag: u64, shape: Shape, n: usize) -> bool
 pub fn is_extended(tag: u64) -> bool
     ensures { result ≡ is_extended tag }
 {
-    if 103 <= tag {
-        return tag <= 105;
-    }
-    false
+    103 <= tag && tag <= 105
 }
 
 // Whether an item takes only some of its codes.
 pub fn limits_codes(tag: u64) -> bool
     ensures { result ≡ codes_limited tag }
 {
-    if tag == 34 {
-        return true;
-    }
-    if tag == 63 {
-        return true;
-    }
-    is_extended(tag)
+    tag == 34 || tag == 63 || is_extended(tag)
 }
 
 // Whether an extended height of so many bytes may have a code: up to that of 40,000 m, which has more zeros the more bytes there are.
 pub fn is_in_reach(size: usize, code: u64) -> bool
     ensures { result ≡ in_reach size code }
 {
-    if 2 <= size {
-        if size <= 4 {
-            return code <= 20_450 << (8 * size - 16);
-        }
-    }
-    false
+    2 <= size && size <= 4 && code <= 20_450 << (8 * size - 16)
 }
 
 // Whether a code is below a limit; a value of no bytes has none.
 fn is_under(limit: u64, size: usize, code: u64) -> bool
     ensures { result ≡ (eqb size 0 || ltb code limit) }
 {
-    if size == 0 {
-        return true;
-    }
-    code < limit
+    size == 0 || code < limit
 }
 
 // Whether an item may have a code: 34 goes from 0 to 2, 63 from 0 to 8, an extended height up to 40,000 m, and every other takes all; where there
@@ -271,10 +241,7 @@ pub fn allows_code(tag: u64, size: usize, code: u64) -> bool
     // most tags are below 64, and are not asked whether they are extended heights
     if 63 < tag {
         if is_extended(tag) {
-            if size == 0 {
-                return true;
-            }
-            return is_in_reach(size, code);
+            return size == 0 || is_in_reach(size, code);
         }
         return true;
     }

@@ -7,27 +7,33 @@ use native.Mathlib.Numerals.{add-one}
 use mathlib.Core.Path.{◌≡◌}
 use mathlib.Core.List.{List}
 use lib.ListN.{length, get_or, drop}
-use borrow.Author.Tests.{lt-ltb, le-ltb, ne_eqb}
+use borrow.Author.Tests.{lt-ltb, ne_eqb}
+use Rattle.std.specs.Prelude.{Some, None}
+use Rattle.std.proofs.lemmas.Bool.Decides.{nat_tests}
 use Rattle.base.proofs.Parts.{cons_at, nil_at}
-use Rattle.console.specs.declared.Word.TheVariants.{Is, Not}
 use Rattle.console.specs.Word.{digit_of, word_from, word_of}
 
-pub too_long : (l : List ℕ) → 16 < length l → word_of l ≡ Not
+pub too_long : (l : List ℕ) → 16 < length l → word_of l ≡ None
 unfolding word_of
 too_long l h = rw (ne_eqb (length l) 0 (λ e. omega arith), lt-ltb 16 (length l) h)
 
+-- a digit stands for less than 16
+pub digit_small : (x d : ℕ) → digit_of x ≡ Some d → d ≤ 15
+unfolding digit_of
+digit_small x d e = grind (arith, nat_tests)
+
 module _ (l : List ℕ) (i high : ℕ) where
-  pub word_end : length l ≤ i → word_from high (drop i l) ≡ Is high
+  pub word_end : length l ≤ i → word_from high (drop i l) ≡ Some high
   unfolding word_from
   word_end h = rw (nil_at l i h)
 
-  pub word_broken : i < length l → 15 < digit_of (get_or l i 0) → word_from high (drop i l) ≡ Not
+  pub word_broken : i < length l → digit_of (get_or l i 0) ≡ None → word_from high (drop i l) ≡ None
   unfolding word_from
-  word_broken h d = rw (cons_at l i h, lt-ltb 15 (digit_of (get_or l i 0)) d)
+  word_broken h e = rw (cons_at l i h, e, word_from)
 
-  pub word_goes_on : i < length l → digit_of (get_or l i 0) ≤ 15 → word_from high (drop i l) ≡ word_from (high * 16 + digit_of (get_or l i 0)) (drop (i + 1) l)
+  pub word_goes_on : (d : ℕ) → i < length l → digit_of (get_or l i 0) ≡ Some d → word_from high (drop i l) ≡ word_from (high * 16 + d) (drop (i + 1) l)
   unfolding word_from
-  word_goes_on h d = rw (cons_at l i h, le-ltb 15 (digit_of (get_or l i 0)) d)
+  word_goes_on d h e = rw (cons_at l i h, e, word_from)
 
 module _ (high digit i : ℕ) (small : high < 16 ^ i) (d : digit ≤ 15) where
   pub grows : high * 16 + digit < 16 ^ (i + 1)

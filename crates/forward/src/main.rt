@@ -3,8 +3,7 @@
 // travel on as a packet, and one line to standard error.
 #![tactic(auto)]
 
-use console::{Word, refused, say, word_of};
-use relay::Forwarding;
+use console::{refused, word_of};
 use std::env::FillError;
 use std::io;
 use std::io::Write;
@@ -17,8 +16,8 @@ fn send(rt: &HostRuntime, known: TagSet) -> io::Result<()> {
     let mut out = [0u8; 8192];
     let n = console::read_full(&mut rt.stdin(), &mut packet)?;
     match relay::forward(known, &packet[..n], &mut out) {
-        Forwarding::Refused(r) => refused(&mut rt.stderr(), r)?,
-        Forwarding::Packet(sent) => {
+        Err(r) => refused(&mut rt.stderr(), r)?,
+        Ok(sent) => {
             let size = sent.size;
             if size <= 8192 {
                 rt.stdout().write_all(&out[..size])?;
@@ -31,37 +30,34 @@ fn send(rt: &HostRuntime, known: TagSet) -> io::Result<()> {
 // Whether there is an argument of this number, however long.
 fn has_argument(rt: &impl Env, n: usize) -> bool {
     let mut text = [0u8; 1];
-    match rt.arg(n, &mut text) {
-        Ok(_) => true,
-        Err(FillError::NotPresent) => false,
-        Err(_) => true,
-    }
+    !matches!(rt.arg(n, &mut text), Err(FillError::NotPresent))
 }
 
 // An argument of at most 16 digits: a longer one does not fit, and is none.
-fn argument(rt: &impl Env, n: usize) -> Word {
+fn argument(rt: &impl Env, n: usize) -> Option<u64> {
     let mut text = [0u8; 16];
-    match rt.arg(n, &mut text) {
-        Ok(length) => word_of(&text[..length]),
-        Err(_) => Word::Not,
+    let length = rt.arg(n, &mut text).ok()?;
+    word_of(&text[..length])
+}
+
+// The knowing set that the arguments give: items 1, 2 and 65 where there are none. Arguments that are not two words give none.
+fn known(rt: &impl Env) -> Option<TagSet> {
+    if !has_argument(rt, 1) {
+        return Some(TagSet { low: 6, high: 2 });
     }
+    if has_argument(rt, 3) {
+        return None;
+    }
+    let low = argument(rt, 1)?;
+    let high = argument(rt, 2)?;
+    Some(TagSet { low, high })
 }
 
 fn main(rt: HostRuntime) -> io::Result<()> {
-    if !has_argument(&rt, 1) {
-        return send(&rt, TagSet { low: 6, high: 2 });
+    match known(&rt) {
+        Some(known) => send(&rt, known),
+        None => eprintln!(rt;
+            "forward: the arguments are none, or two words in hexadecimal of at most 16 digits"
+        ),
     }
-    if has_argument(&rt, 2) {
-        if !has_argument(&rt, 3) {
-            if let Word::Is(low) = argument(&rt, 1) {
-                if let Word::Is(high) = argument(&rt, 2) {
-                    return send(&rt, TagSet { low, high });
-                }
-            }
-        }
-    }
-    say(
-        &mut rt.stderr(),
-        b"forward: the arguments are none, or two words in hexadecimal of at most 16 digits\n",
-    )
 }

@@ -7,11 +7,11 @@ use mathlib.Core.Bool.{true}
 use mathlib.Core.List.{[]}
 use lib.IntN.{pos, neg_ℤ}
 use Rattle.catalogue.specs.Items.{Group, groups, member, item_in, item_of}
-use Rattle.catalogue.specs.declared.Found.TheVariants.{Known}
 use Rattle.catalogue.specs.declared.Sign.TheVariants.{Unsigned, Marked}
 use Rattle.catalogue.specs.declared.Unit.TheVariants.{Degree, Metre}
 use Rattle.scale.specs.Scales.{scaled}
 use Rattle.ground.specs.code.Located.{item_with, Like}
+use Rattle.std.specs.Prelude.{Some}
 
 -- the groups, by their scales alone
 abbrev height : Group
@@ -29,7 +29,7 @@ longitude = signed 4 1800000000
 abbrev offset : Group
 offset = signed 2 750000
 
-alike : (t u : ℕ) (g : Group) → item_of t ≡ Known (item_with t g) → item_of u ≡ Known (item_with u g) → scaled (item_with t g) ≡ true → Like t u g.width
+alike : (t u : ℕ) (g : Group) → item_of t ≡ Some (item_with t g) → item_of u ≡ Some (item_with u g) → scaled (item_with t g) ≡ true → Like t u g.width
 alike t u g e f s = record { group = g; one = e; other = f; wide = refl; scale = s }
 
 -- one of four

@@ -3,7 +3,7 @@
 use Prim.Native.Nat.{ℕ, suc, ◌+◌, ◌-◌, ◌*◌, ◌%◌, ◌^◌, ◌<◌, ◌≤◌, suc-le-suc}
 use native.Mathlib.Omega.{arith}
 use native.Mathlib.Nat.{mod-eq_of_lt, pow-le-pow_right}
-use mathlib.Core.Path.{◌≡◌, refl, sym, ap, ◌∙◌}
+use mathlib.Core.Path.{◌≡◌, refl, sym, ap, ap₂, ◌∙◌}
 use mathlib.Core.Bool.{Bool, true, false, ◌&&◌}
 use mathlib.Core.List.{List, [], ◌∷◌}
 use lib.Arith.{digits_mod}
@@ -13,7 +13,7 @@ use lib.Seq.{get_or-set_same, get_or-set_other}
 use borrow.Author.Tests.{leb-true, eq-eqb, ne_eqb}
 use Rattle.base.proofs.Cases.{by_bool, by_lt, by_eq, clash, never}
 use Rattle.base.proofs.Every.{both_left, both_right}
-use Rattle.refusal.specs.Answer.{given, refusal, or_else}
+use Rattle.refusal.specs.Answer.{Answer, given, refused, refusal, map, or_else}
 use Rattle.refusal.specs.declared.Refusal.{Refusal}
 use Rattle.refusal.proofs.Answers.{map_given, map_refused}
 use Rattle.number.specs.Stored.{Bytes, value_of}
@@ -28,17 +28,13 @@ use Rattle.catalogue.proofs.Columns.{extended_shape, right_some}
 use Rattle.knowing.proofs.Laws.{good_means}
 use Rattle.rows.proofs.Present.{known_listed}
 use Rattle.catalogue.specs.declared.Item.{Item}
-use Rattle.catalogue.specs.declared.Found.TheVariants as found
 use Rattle.catalogue.specs.declared.Shape.TheVariants.{Number}
 use Rattle.rows.specs.Meaning.{shape_for, mark_code}
 use Rattle.rows.specs.declared.RowWords.{RowWords}
 use Rattle.rows.specs.Taken.{part_length}
 use Rattle.packet.specs.Pieces as pieces
 use Rattle.packet.specs.Allowed.{piece_at}
-use Rattle.packet.specs.Said.{check_said}
-use Rattle.packet.specs.Verdict.{received, start_of, body_of, checked as checks, one_byte, found_at, places_from, no_places, Locates}
-use Rattle.packet.specs.declared.Accepted.{Accepted}
-use Rattle.packet.specs.declared.Checked.TheVariants as checked
+use Rattle.packet.specs.Verdict.{received, start_of, one_byte, found_at, places_from, no_places, located_of, located}
 use Rattle.packet.specs.declared.Located.{Located}
 use Rattle.packet.specs.declared.Header.{Header}
 use Rattle.packet.specs.Rows.{row_of, rows_of}
@@ -55,8 +51,9 @@ use Rattle.ground.specs.Values.{in_house, value_by, value_for}
 use Rattle.ground.specs.Ground.{from_rows}
 use Rattle.ground.specs.declared.Value.{Value}
 use Rattle.ground.specs.declared.Value.TheVariants.{Absent}
-use Rattle.ground.specs.code.Located.{Placed, rows_held, place_in, item_with, Like}
+use Rattle.ground.specs.code.Located.{Placed, rows_held, place_found, item_with, Like}
 use Rattle.ground.proofs.Present.{shape_is}
+use Rattle.std.specs.Prelude.{Some, None}
 
 -- a tag that is not known has carried rows alone
 unknown : (K : ℕ → Bool) (t : ℕ) → K t ≡ false → (is : List pieces.Item) → value_for t (rows_of K is) ≡ Absent
@@ -228,22 +225,60 @@ module _ {t u width : ℕ} (k : Like t u width) where
       (λ b. rw (scaled_plain its_scale, scaled_plain other_scale, k.one, k.other, k.scale, b))
       (λ b. rw (scaled_plain its_scale, scaled_plain other_scale, k.one, k.other, k.scale, b))
 
--- what a function that looks for a tag has of an accepted packet
+-- what a function that finds a tag has of an accepted packet
 pub record Stands (p : List ℕ) (u width end : ℕ) (x : Value) : Type 0 where
   pub inside : end ≤ length p
-  pub wide : 0 < end → width ≤ end
-  pub none : end ≤ 0 → Absent ≡ x
-  pub there : 0 < end → (code : ℕ) → code ≡ value_of (take (end - (end - width)) (drop (end - width) p)) % 2 ^ 64 → in_house (to_house u width code) ≡ x
+  pub wide : width ≤ end
+  pub there : (code : ℕ) → code ≡ value_of (take (end - (end - width)) (drop (end - width) p)) % 2 ^ 64 → in_house (to_house u width code) ≡ x
 
 -- and of an extended height, by the byte before its value
 pub record HeightStands (p : List ℕ) (t place : ℕ) (x : Value) : Type 0 where
-  pub inside : 0 < place → place + get_or p (place - 1) 0 ≤ length p
-  pub before : place ≤ length p
-  pub none : place ≤ 0 → Absent ≡ x
-  pub there : 0 < place → (code : ℕ) → code ≡ value_of (take (get_or p (place - 1) 0) (drop place p)) % 2 ^ 64
+  pub before : place - 1 < length p
+  pub inside : place + get_or p (place - 1) 0 ≤ length p
+  pub there : (code : ℕ) → code ≡ value_of (take (get_or p (place - 1) 0) (drop place p)) % 2 ^ 64
       → in_house (to_house t (get_or p (place - 1) 0) code) ≡ x
 
-module _ (K : TagSet) (p places : List ℕ) (by : Bytes p) (w : Words K) (a : Placed K p places) (t : ℕ) where
+-- what it is to be found
+record Finding (K : TagSet) (places : List ℕ) (t place : ℕ) : Type 0 where
+  known : holds K t ≡ true
+  some : 0 < place
+  at : place ≡ get_or places t 0
+
+finding : (K : TagSet) (places : List ℕ) (t place : ℕ) → Some place ≡ place_found K places t → Finding K places t place
+finding K places t place e =
+    by_bool (holds K t)
+    (λ k. by_eq (get_or places t 0) 0
+    (λ z. let f : Some place ≡ None = rw (k, eq-eqb _ _ z) at e in never (cc))
+    (λ n.
+    let f : Some place ≡ Some (get_or places t 0) = rw (k, ne_eqb _ _ n) at e in
+    let at : place ≡ get_or places t 0 = cc in
+    record { known = k; some = omega (arith, n, at); at = at }))
+    (λ k. let f : Some place ≡ None = rw k at e in never (cc))
+
+-- the items of an accepted packet
+record Itemized (K : TagSet) (p found : List ℕ) : Type 0 where
+  items : List pieces.Item
+  accepted : received K p ≡ given items
+  places : found ≡ places_from no_places items
+
+items_of : (K : TagSet) (p found : List ℕ) → Placed K p found → Itemized K p found
+items_of K p found a = go (received K p) refl a.accepted a.places
+  where
+    go : (r : Answer (List pieces.Item)) → received K p ≡ r → or_else false (λ _. true) r ≡ true
+        → found ≡ or_else no_places (places_from no_places) r → Itemized K p found
+    go (given is) e f g = record { items = is; accepted = e; places = g }
+    go (refused n q t) e f g = clash (sym f)
+
+module _ (K : TagSet) (p places : List ℕ) (placed : Placed K p places) (t : ℕ) where
+  w : Words K
+  w = record { low64 = placed.low64; high64 = placed.high64 }
+
+  pub below_held : holds K t ≡ true → t < 128
+  below_held e = by_lt t 128 (λ h. h) (λ h. clash (sym e ∙ holds_none K w t h))
+
+  a : Itemized K p places
+  a = items_of K p places placed
+
   held : rows_held K p ≡ rows_of (holds K) a.items
   held = ap (or_else [] (rows_of (holds K))) a.accepted
 
@@ -251,68 +286,68 @@ module _ (K : TagSet) (p places : List ℕ) (by : Bytes p) (w : Words K) (a : Pl
   absent e = sym (ap (value_for t) held ∙ unknown (holds K) t e a.items)
 
   shape_listed : holds K t ≡ true → is_listed (shape_for (holds K) t) ≡ true
-  shape_listed e = known_listed K (good_means K w (accepting K p a.items by a.accepted).known) t ∙ e
+  shape_listed e = known_listed K (good_means K w (accepting K p a.items placed.bytes a.accepted).known) t ∙ e
 
-  known_told : (e : holds K t ≡ true) (some : 0 < t) (below : t < 128) (says : InHouse K t)
-      → Told K p t e some below (shape_listed e) says (get_or (places_from no_places a.items) t 0) (rows_of (holds K) a.items)
-  known_told e some below says =
+  known_told : (e : holds K t ≡ true) (some : 0 < t) (says : InHouse K t)
+      → Told K p t e some (below_held e) (shape_listed e) says (get_or (places_from no_places a.items) t 0) (rows_of (holds K) a.items)
+  known_told e some says =
       let is : List pieces.Item = a.items in
-      let accepts = accepting K p is by a.accepted in
+      let accepts = accepting K p is placed.bytes a.accepted in
       let c = fine_clean (holds K) (pieces.pieces is) accepts.clean in
-      told K p t e some below (shape_listed e) says by accepts.short no_places is (length-replicate {A = ℕ} 128 0)
-      (get_or-replicate {A = ℕ} 128 t 0 0 below) (walked p by 128 (start_of 0 is) is accepts.fills) c.sized c.once
+      let below : t < 128 = below_held e in
+      told K p t e some below (shape_listed e) says placed.bytes accepts.short no_places is (length-replicate {A = ℕ} 128 0)
+      (get_or-replicate {A = ℕ} 128 t 0 0 below) (walked p placed.bytes 128 (start_of 0 is) is accepts.fills) c.sized c.once
 
-  below_held : holds K t ≡ true → t < 128
-  below_held e = by_lt t 128 (λ h. h) (λ h. clash (sym e ∙ holds_none K w t h))
+  placed_at : get_or places t 0 ≡ get_or (places_from no_places a.items) t 0
+  placed_at = ap (λ l. get_or l t 0) a.places
+
+  nowhere : 0 < t → (holds K t ≡ true → InHouse K t) → None ≡ place_found K places t → Absent ≡ value_for t (rows_held K p)
+  nowhere some says f =
+      by_bool (holds K t)
+      (λ e. by_eq (get_or places t 0) 0
+      (λ z. sym (ap (value_for t) held ∙ (known_told e some (says e)).none (sym placed_at ∙ z)))
+      (λ n. let g : None ≡ Some (get_or places t 0) = rw (e, ne_eqb _ _ n) at f in never (cc)))
+      absent
 
   -- by the scale of a tag of its group
   module _ (u width : ℕ) (k : Like t u width) where
-    not_known : holds K t ≡ false → Stands p u width (place_in K places t) (value_for t (rows_held K p))
-    not_known e =
-        rw e (record { inside = omega arith; wide = λ h. absurd (omega arith); none = λ _. absent e; there = λ h. absurd (omega arith) })
-
     tag_some : (t ≡ 0 → ⊥)
     unfolding item_of item_in member groups
-    tag_some z = let f : found.Absent ≡ found.Known (item_with 0 k.group) = rw z at k.one in never (cc)
+    tag_some z = let f : None ≡ Some (item_with 0 k.group) = rw z at k.one in never (cc)
 
-    known : holds K t ≡ true → Stands p u width (place_in K places t) (value_for t (rows_held K p))
-    known e =
+    like_says : holds K t ≡ true → InHouse K t
+    like_says e = scaled_says K p t (item_with t k.group) e (its_scale k)
+
+    pub stands : (end : ℕ) → Some end ≡ place_found K places t → Stands p u width end (value_for t (rows_held K p))
+    stands end f =
+        let q = finding K places t end f in
         let s = its_scale k in
         let g : ℕ = k.group.width in
         let narrow : g < 5 = (scaled_rule s).narrow in
-        let end : ℕ = get_or (places_from no_places a.items) t 0 in
-        let r = known_told e (omega (arith, tag_some)) (below_held e) (scaled_says K p t (item_with t k.group) e s) in
-        let size : (h : 0 < end) → (r.there h).header.size ≡ g =
-        λ h. sized_so K p t (item_with t k.group) e s _ (r.there h).bytes (r.there h).allowed in
-        let past : (h : 0 < end) → end ≡ (r.there h).header.place + (r.there h).header.size =
-        λ h. (r.there h).found ∙ rw (ne_eqb _ 0 (r.there h).bytes, scaled_plain s) in
-        let inside : (h : 0 < end) → (r.there h).header.place + (r.there h).header.size ≤ length p = λ h. (r.there h).lies.inside in
-        rw (e, a.places, held, ← k.wide) (record {
-          inside = by_lt 0 end (λ h. omega (arith, past h, inside h)) (λ h. omega arith);
-          wide = λ h. omega (arith, past h, size h);
-          none = λ h. sym (r.none (omega (arith, h)));
-          there = λ h code q.
-              let y = r.there h in
-              let n : end - (end - g) ≡ y.header.size = omega (arith, past h, size h) in
-              let at : end - g ≡ y.header.place = omega (arith, past h, size h) in
+        let same : end ≡ get_or (places_from no_places a.items) t 0 = q.at ∙ placed_at in
+        let y = (known_told q.known (omega (arith, tag_some)) (like_says q.known)).there (omega (arith, q.some, same)) in
+        let size : y.header.size ≡ g = sized_so K p t (item_with t k.group) q.known s _ y.bytes y.allowed in
+        let past : end ≡ y.header.place + y.header.size = same ∙ (y.found ∙ rw (ne_eqb _ 0 y.bytes, scaled_plain s)) in
+        rw (held, ← k.wide) (record {
+          inside = omega (arith, past, y.lies.inside);
+          wide = omega (arith, past, size);
+          there = λ code c.
+              let n : end - (end - g) ≡ y.header.size = omega (arith, past, size) in
+              let at : end - g ≡ y.header.place = omega (arith, past, size) in
               let v : List ℕ = take y.header.size (drop y.header.place p) in
-              let few : length v ≤ 8 = rw length-take (omega (arith, narrow, size h)) in
-              let f : code ≡ value_of v = rw (n, at) at q ∙ whole_code v (bytes_take y.header.size _ (bytes_drop y.header.place by)) few in
-              ap (λ x. in_house (to_house u g x)) f ∙ (same-house k g y.header.size (value_of v) ∙ sym y.value);
+              let few : length v ≤ 8 = rw length-take (omega (arith, narrow, size)) in
+              let e : code ≡ value_of v = rw (n, at) at c ∙ whole_code v (bytes_take y.header.size _ (bytes_drop y.header.place placed.bytes)) few in
+              ap (λ x. in_house (to_house u g x)) e ∙ (same-house k g y.header.size (value_of v) ∙ sym y.value);
         })
 
-    pub stands : (end : ℕ) → end ≡ place_in K places t → Stands p u width end (value_for t (rows_held K p))
-    stands end e = rw e (by_bool (holds K t) known not_known)
+    pub stands_not : None ≡ place_found K places t → Absent ≡ value_for t (rows_held K p)
+    stands_not = nowhere (omega (arith, tag_some)) like_says
 
   -- of an extended height
   module _ (x : is_extended t ≡ true) where
     height_says : holds K t ≡ true → InHouse K t
     unfolding value_for value_by row_of shape_for
     height_says e j bytes size rs q = rw (q, e, extended_shape t x, ne_eqb _ 0 bytes, eq-eqb t t refl, size)
-
-    height_not_known : holds K t ≡ false → HeightStands p t (place_in K places t) (value_for t (rows_held K p))
-    height_not_known e =
-        rw e (record { inside = λ h. absurd (omega arith); before = omega arith; none = λ _. absent e; there = λ h. absurd (omega arith) })
 
     height_some : 0 < t
     unfolding is_extended
@@ -322,42 +357,48 @@ module _ (K : TagSet) (p places : List ℕ) (by : Bytes p) (w : Words K) (a : Pl
     unfolding right_length
     height_few n bytes h = leb-true n 4 (both_right (leb 2 n) _ (rw (extended_shape t x) at (right_some t n (shape_of t) h bytes)))
 
-    height_known : holds K t ≡ true → HeightStands p t (place_in K places t) (value_for t (rows_held K p))
-    height_known e =
-        let place : ℕ = get_or (places_from no_places a.items) t 0 in
-        let r = known_told e height_some (below_held e) (height_says e) in
-        let few : (h : 0 < place) → (r.there h).header.size ≤ 4 = λ h. height_few _ (r.there h).bytes (r.there h).allowed in
-        let here : (h : 0 < place) → place ≡ (r.there h).header.place = λ h. (r.there h).found ∙ rw (ne_eqb _ 0 (r.there h).bytes, x) in
-        let size : (h : 0 < place) → get_or p (place - 1) 0 ≡ (r.there h).header.size =
-        λ h. ap (λ k. get_or p (k - 1) 0) (here h) ∙ (r.there h).lies.told (omega (arith, few h)) in
-        let inside : (h : 0 < place) → (r.there h).header.place + (r.there h).header.size ≤ length p = λ h. (r.there h).lies.inside in
-        rw (e, a.places, held) (record {
-          inside = λ h. omega (arith, here h, size h, inside h);
-          before = by_lt 0 place (λ h. omega (arith, here h, inside h)) (λ h. omega arith);
-          none = λ h. sym (r.none (omega (arith, h)));
-          there = λ h code q.
-              let y = r.there h in
+    pub height_stands : (place : ℕ) → Some place ≡ place_found K places t → HeightStands p t place (value_for t (rows_held K p))
+    height_stands place f =
+        let q = finding K places t place f in
+        let same : place ≡ get_or (places_from no_places a.items) t 0 = q.at ∙ placed_at in
+        let y = (known_told q.known height_some (height_says q.known)).there (omega (arith, q.some, same)) in
+        let few : y.header.size ≤ 4 = height_few _ y.bytes y.allowed in
+        let here : place ≡ y.header.place = same ∙ (y.found ∙ rw (ne_eqb _ 0 y.bytes, x)) in
+        let size : get_or p (place - 1) 0 ≡ y.header.size = ap (λ k. get_or p (k - 1) 0) here ∙ y.lies.told (omega (arith, few)) in
+        rw held (record {
+          before = omega (arith, here, y.lies.inside, y.lies.two, q.some);
+          inside = omega (arith, here, size, y.lies.inside);
+          there = λ code c.
               let v : List ℕ = take y.header.size (drop y.header.place p) in
-              let long : length v ≤ 8 = rw length-take (omega (arith, few h)) in
-              let f : code ≡ value_of v = rw (size h, here h) at q ∙ whole_code v (bytes_take y.header.size _ (bytes_drop y.header.place by)) long in
-              rw (size h, f) (sym y.value);
+              let long : length v ≤ 8 = rw length-take (omega (arith, few)) in
+              let e : code ≡ value_of v =
+              c ∙ (ap₂ (λ n b. value_of (take n (drop b p)) % 2 ^ 64) size here
+              ∙ whole_code v (bytes_take y.header.size _ (bytes_drop y.header.place placed.bytes)) long) in
+              rw (size, e) (sym y.value);
         })
 
-    pub height_stands : (place : ℕ) → place ≡ place_in K places t → HeightStands p t place (value_for t (rows_held K p))
-    height_stands place e = rw e (by_bool (holds K t) height_known height_not_known)
+    pub height_stands_not : None ≡ place_found K places t → Absent ≡ value_for t (rows_held K p)
+    height_stands_not = nowhere height_some height_says
 
 -- the answer of a packet that was looked through
-module _ (K : TagSet) (p : List ℕ) (r : Located) (d : Locates K p r) where
-  pub placed_so : (x : Accepted) → r.answer ≡ checked.Accepted x → Placed K p r.places
-  unfolding checks
-  placed_so x e =
-      let q = map_given (body_of (holds K)) (received K p) (sym d.says ∙ ap check_said e) in
-      record { items = q.0; accepted = q.1; places = d.places ∙ ap (or_else no_places (places_from no_places)) q.1 }
+pub placed_so : (K : TagSet) (p : List ℕ) (l : Located) → Words K → Bytes p → located K p ≡ given l → Placed K p l.places
+unfolding located
+placed_so K p l w by e =
+    let q = map_given (located_of (holds K)) (received K p) e in
+    record {
+      low64 = w.low64;
+      high64 = w.high64;
+      bytes = by;
+      accepted = ap (or_else false (λ _. true)) q.1;
+      places = ap (λ x. x.places) (sym q.2) ∙ sym (ap (or_else no_places (places_from no_places)) q.1);
+    }
 
-  pub refused_so : {A : Type 0} (f : List RowWords → A) (x : Refusal) → r.answer ≡ checked.Refused x → refusal x ≡ from_rows f K p
-  unfolding from_rows checks
-  refused_so f x e = rw (map_refused (body_of (holds K)) (received K p) _ _ _ (sym d.says ∙ ap check_said e))
+pub refused_so : {A : Type 0} (f : List RowWords → A) (K : TagSet) (p : List ℕ) (x : Refusal) → located K p ≡ refusal x → refusal x ≡ from_rows f K p
+unfolding from_rows located
+refused_so f K p x e = rw (map_refused (located_of (holds K)) (received K p) _ _ _ e)
 
-pub held_so : {A : Type 0} (f : List RowWords → A) (K : TagSet) (p places : List ℕ) → Placed K p places → given (f (rows_held K p)) ≡ from_rows f K p
-unfolding from_rows
-held_so f K p places a = rw a.accepted
+pub held_so : {A : Type 0} (f : List RowWords → A) (K : TagSet) (p : List ℕ) (l : Located) → located K p ≡ given l → given (f (rows_held K p)) ≡ from_rows f K p
+unfolding from_rows located
+held_so f K p l e =
+    let q = map_given (located_of (holds K)) (received K p) e in
+    ap (λ r. given (f (or_else [] (rows_of (holds K)) r))) q.1 ∙ sym (ap (map (λ is. f (rows_of (holds K) is))) q.1)

@@ -13,12 +13,11 @@ use lib.Signed.{mag, lt_z}
 use borrow.Author.Tests.{lt-ltb, le-ltb, le-leb, ltb-true, ltb-false}
 use Rattle.base.proofs.Cases.{by_bool, by_lt, by_eq, never, clash}
 use Rattle.base.proofs.Every.{both_left, both_right}
-use Rattle.refusal.specs.Answer.{given}
+use Rattle.refusal.specs.Answer.{given, map, answer_said}
 use Rattle.refusal.proofs.Answers.{map_given}
 use Rattle.tagset.specs.declared.TagSet.{TagSet}
 use Rattle.catalogue.specs.Items.{groups, member, item_in, item_of}
 use Rattle.catalogue.specs.declared.Item.{Item}
-use Rattle.catalogue.specs.declared.Found.TheVariants.{Known}
 use Rattle.rows.specs.declared.RowWords.{RowWords}
 use Rattle.packet.specs.Verdict.{received}
 use Rattle.scale.specs.Scales.{beyond}
@@ -37,6 +36,8 @@ use Rattle.ground.specs.code.Located.{item_with, Like}
 use Rattle.ground.proofs.Values.{value_inside}
 use Rattle.ground.proofs.Alike.{like_24, like_latitude, like_longitude, like_east}
 use Rattle.ground.proofs.Earth.{Modulo, range_stays, back_in_range, back_modulo}
+use Rattle.std.specs.Prelude.{Some, Result, Ok}
+use Rattle.refusal.specs.declared.Refusal.{Refusal}
 
 -- both ends alike: no farther from zero
 within : (x : ℕ) (v : ℤ) → beyond (neg_ℤ (pos x)) (pos x) v ≡ false → nat_abs v ≤ x
@@ -45,10 +46,10 @@ within zero (negsuc n) e = clash e
 within (suc x) (negsuc n) e = omega (arith, ltb-false x n (neither_left (ltb x n) _ e))
 
 -- a value of a tag that is stored as u is, from -x to x
-value_within : {t u width x : ℕ} (k : Like t u width) (i : Item) → item_of u ≡ Known i → i.low ≡ neg_ℤ (pos x) → i.high ≡ pos x
+value_within : {t u width x : ℕ} (k : Like t u width) (i : Item) → item_of u ≡ Some i → i.low ≡ neg_ℤ (pos x) → i.high ≡ pos x
     → (rs : List RowWords) (v : ℤ) → value_for t rs ≡ At v → nat_abs v ≤ x
 value_within {t} {u} {width} {x} k i e low high rs v f =
-    let told : Known (item_with u k.group) ≡ Known i = sym k.other ∙ e in
+    let told : Some (item_with u k.group) ≡ Some i = sym k.other ∙ e in
     let same : item_with u k.group ≡ i = cc in
     let inside : beyond k.group.low k.group.high v ≡ false = value_inside (record { known = k.one; has_scale = k.scale }) v rs f in
     let from : k.group.low ≡ neg_ℤ (pos x) = ap (λ j. j.low) same ∙ low in
@@ -243,6 +244,6 @@ corner_on_earth k K p a b e =
     let o = on_the_earth k _ a b m.2 in
     (o.latitude, o.longitude)
 
-pub answer_on_earth : (k : ℕ) (K : TagSet) (p : List ℕ) (r : Corner) (q : Point) → corner_said r ≡ corner_of k K p → r ≡ corner.At q
+pub answer_on_earth : (k : ℕ) (K : TagSet) (p : List ℕ) (r : Result Corner Refusal) (q : Point) → map corner_said (answer_said r) ≡ corner_of k K p → r ≡ Ok (corner.At q)
     → (beyond_pole q.latitude ≡ false) × (in_range q.longitude ≡ true)
-answer_on_earth k K p r q e f = corner_on_earth k K p q.latitude q.longitude (sym e ∙ ap corner_said f)
+answer_on_earth k K p r q e f = corner_on_earth k K p q.latitude q.longitude (sym e ∙ ap (λ x. map corner_said (answer_said x)) f)

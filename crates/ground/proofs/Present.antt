@@ -21,8 +21,6 @@ use Rattle.knowing.specs.Good.{good}
 use Rattle.catalogue.specs.Items.{groups, member, item_in, item_of}
 use Rattle.catalogue.specs.Shapes.{is_marked, shape_of, shape_allows}
 use Rattle.catalogue.specs.declared.Item.{Item}
-use Rattle.catalogue.specs.declared.Found.{Found}
-use Rattle.catalogue.specs.declared.Found.TheVariants.{Known, Absent as Unlisted}
 use Rattle.catalogue.specs.declared.Shape.{Shape}
 use Rattle.catalogue.specs.declared.Shape.TheVariants.{Number}
 use Rattle.rows.specs.Meaning.{shape_for, mark_code, value_as, kind_of, kind_for, is_number as number}
@@ -40,6 +38,7 @@ use Rattle.scale.proofs.Given.{Scaled, scaled_rule, every_code_converts}
 use Rattle.ground.specs.Values.{value_by, value_for}
 use Rattle.ground.specs.declared.Value.{Value}
 use Rattle.ground.specs.declared.Value.TheVariants.{Absent, Off, At}
+use Rattle.std.specs.Prelude.{Option, Some, None}
 
 pub data In (r : RowWords) : List RowWords → Type 0 where
   here : {rs : List RowWords} → In r (r ∷ rs)
@@ -64,9 +63,9 @@ no_number : (r : RowWords) → r.kind ≡ 5 → number (row_says r) ≡ false
 no_number r e = rw e
 
 -- the checksum has no scale
-scaled_by : Found → Bool
-scaled_by (Known i) = scaled i
-scaled_by Unlisted = false
+scaled_by : Option Item → Bool
+scaled_by (Some i) = scaled i
+scaled_by None = false
 
 unscaled_sum : (i : Item) → Scaled 1 i → ⊥
 unfolding groups member item_in item_of scaled_by

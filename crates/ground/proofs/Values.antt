@@ -5,9 +5,7 @@ use mathlib.Core.Path.{◌≡◌, refl, sym, ap, ◌∙◌}
 use mathlib.Core.Bool.{false, ◌&&◌}
 use mathlib.Core.List.{List, [], ◌∷◌}
 use lib.Dec.{eqb}
-use lib.IntN.{ℤ, ◌+ℤ◌}
-use mir.Syntax.{w64}
-use mir.Val.{SFits}
+use lib.IntN.{ℤ}
 use borrow.Author.Tests.{eqb-true}
 use Rattle.base.proofs.Cases.{by_bool, never}
 use Rattle.base.proofs.Every.{both_left}
@@ -20,11 +18,9 @@ use Rattle.rows.specs.declared.Part.{Part}
 use Rattle.scale.specs.Scales.{is_outside}
 use Rattle.scale.specs.Conversions.{to_house}
 use Rattle.scale.specs.declared.House.{House}
-use Rattle.scale.proofs.Whole.{sum_fits}
 use Rattle.scale.proofs.Numbers.{house_inside}
 use Rattle.scale.proofs.Given.{Scaled, scaled_rule, scaled_plain, house-given, house_small}
 use Rattle.ground.specs.Values.{in_house, value_seen, value_by, value_for, Small}
-use Rattle.ground.specs.declared.Value.{Value}
 use Rattle.ground.specs.declared.Value.TheVariants.{At}
 
 -- what a row says is small enough to be added
@@ -48,9 +44,6 @@ unfolding value_for
 value_small t [] = tt
 value_small t (r ∷ rs) =
     by_bool (eqb r.tag t && is_number (row_says r)) (λ e. rw e (row_small r)) (λ e. rw e (value_small t rs))
-
-pub both_small : {a b : ℤ} {x y : Value} → x ≡ At a → y ≡ At b → Small x → Small y → SFits w64 (a +ℤ b)
-both_small {a} {b} e f h k = sum_fits a b (rw e at h) (rw f at k)
 
 -- what the rows say of a tag with a scale is inside its range
 module _ {t : ℕ} {i : Item} (s : Scaled t i) (v : ℤ) where

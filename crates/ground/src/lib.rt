@@ -2,8 +2,8 @@
 // other; a mark is off the Earth and never a number.
 #![tactic(auto)]
 
-ghost use Rattle.std.specs.Prelude.{◌≡◌, ◌^◌, ◌<◌, true};
-ghost use Rattle.refusal.specs.Answer.{given, map};
+ghost use Rattle.std.specs.Prelude.{◌≡◌, ◌<◌, true};
+ghost use Rattle.refusal.specs.Answer.{answer_said, map};
 ghost use Rattle.catalogue.specs.Extended.{is_extended};
 ghost use Rattle.scale.specs.Conversions.{to_house};
 ghost use Rattle.ground.specs.Values.{in_house, value_for, Small};
@@ -11,42 +11,38 @@ ghost use Rattle.ground.specs.Earth.{turn_for};
 ghost use Rattle.ground.specs.Ground.{height_in, sensor_in, point_of, sum_of, full_corner, offset_corner, plain_corner, on, on_earth};
 ghost use Rattle.ground.specs.Ground.{sensor_height, frame_centre_height, corner_of};
 ghost use Rattle.ground.specs.Said.{height_said, corner_said};
-ghost use Rattle.ground.specs.code.Located.{Placed, rows_held, place_in, Like};
+ghost use Rattle.ground.specs.code.Located.{Placed, rows_held, place_found, Like};
 
-use packet::Checked;
 use refusal::Refusal;
-use scale::ToHouse;
 use tagset::TagSet;
 
 // In mm over the ellipsoid.
-#[derive(Clone, Copy)]
+#[derive(Clone, Copy, Debug, PartialEq, Eq)]
 pub struct EllipsoidHeight(pub i64);
 
 // In mm over mean sea level.
-#[derive(Clone, Copy)]
+#[derive(Clone, Copy, Debug, PartialEq, Eq)]
 pub struct SeaLevelHeight(pub i64);
 
-#[derive(Clone, Copy)]
+#[derive(Clone, Copy, Debug, PartialEq, Eq)]
 pub enum Height {
     OverEllipsoid(EllipsoidHeight),
     OverSeaLevel(SeaLevelHeight),
     Missing,
-    Refused(Refusal),
 }
 
 // In 10^-7 degree.
-#[derive(Clone, Copy)]
+#[derive(Clone, Copy, Debug, PartialEq, Eq)]
 pub struct Point {
     pub latitude: i64,
     pub longitude: i64,
 }
 
-#[derive(Clone, Copy)]
+#[derive(Clone, Copy, Debug, PartialEq, Eq)]
 pub enum Corner {
     At(Point),
     OffTheEarth,
     Missing,
-    Refused(Refusal),
 }
 
 // What the rows say of a tag: nothing, a mark, or a value in house units.
@@ -62,134 +58,8 @@ fn in_house(tag: u64, length: usize, code: u64) -> Value
     ensures { result ≡ in_house (to_house tag length code) }
 {
     match scale::to_house(tag, length, code) {
-        ToHouse::Is(house) => Value::At(house.value),
-        ToHouse::Refused(_) => Value::Off,
-    }
-}
-
-// Where the value of a known tag is found, 0 where there is none.
-fn place_of(known: TagSet, places: &[u16; 128], tag: u64) -> usize
-    requires { place_in known places.now tag < 2 ^ 64 }
-    ensures { result ≡ place_in known places.now tag }
-{
-    if tagset::has(known, tag) {
-        let at = tag as usize;
-        return places[at] as usize;
-    }
-    0
-}
-
-// An extended height, by its place: before it stands its length.
-fn extended_at(packet: &[u8], known: TagSet, places: &[u16; 128], tag: u64) -> Value
-    requires { Placed known packet.now places.now × (is_extended tag ≡ true) }
-    ensures { result ≡ value_for tag (rows_held known packet.now) }
-{
-    let place = place_of(known, places, tag);
-    if 0 < place {
-        let length = packet[place - 1] as usize;
-        let end = place + length;
-        return in_house(tag, length, number::value(&packet[place..end]));
-    }
-    Value::Absent
-}
-
-// A height: all have the scale of 15, which stands here as a constant, so that the compiler works the scale out.
-fn height_at(packet: &[u8], known: TagSet, places: &[u16; 128], tag: u64) -> Value
-    requires { Placed known packet.now places.now × Like tag 15 2 }
-    ensures { result ≡ value_for tag (rows_held known packet.now) }
-{
-    let end = place_of(known, places, tag);
-    if 0 < end {
-        return in_house(15, 2, number::value(&packet[end - 2..end]));
-    }
-    Value::Absent
-}
-
-// A latitude, in the scale of 23.
-fn latitude_at(packet: &[u8], known: TagSet, places: &[u16; 128], tag: u64) -> Value
-    requires { Placed known packet.now places.now × Like tag 23 4 }
-    ensures { result ≡ value_for tag (rows_held known packet.now) }
-{
-    let end = place_of(known, places, tag);
-    if 0 < end {
-        return in_house(23, 4, number::value(&packet[end - 4..end]));
-    }
-    Value::Absent
-}
-
-// A longitude, in the scale of 24.
-fn longitude_at(packet: &[u8], known: TagSet, places: &[u16; 128], tag: u64) -> Value
-    requires { Placed known packet.now places.now × Like tag 24 4 }
-    ensures { result ≡ value_for tag (rows_held known packet.now) }
-{
-    let end = place_of(known, places, tag);
-    if 0 < end {
-        return in_house(24, 4, number::value(&packet[end - 4..end]));
-    }
-    Value::Absent
-}
-
-// A corner's offset from the frame centre, in the scale of 26.
-fn offset_at(packet: &[u8], known: TagSet, places: &[u16; 128], tag: u64) -> Value
-    requires { Placed known packet.now places.now × Like tag 26 2 }
-    ensures { result ≡ value_for tag (rows_held known packet.now) }
-{
-    let end = place_of(known, places, tag);
-    if 0 < end {
-        return in_house(26, 2, number::value(&packet[end - 2..end]));
-    }
-    Value::Absent
-}
-
-// A height by its row over the ellipsoid, else by the one over mean sea level.
-fn height_in(packet: &[u8], known: TagSet, places: &[u16; 128], ellipsoid: u64, sea: u64) -> Height
-    requires { Placed known packet.now places.now × Like ellipsoid 15 2 × Like sea 15 2 }
-    ensures { height_said result ≡ given (height_in ellipsoid sea (rows_held known packet.now)) }
-{
-    match height_at(packet, known, places, ellipsoid) {
-        Value::At(over) => Height::OverEllipsoid(EllipsoidHeight(over)),
-        Value::Off => Height::Missing,
-        Value::Absent => match height_at(packet, known, places, sea) {
-            Value::At(above) => Height::OverSeaLevel(SeaLevelHeight(above)),
-            Value::Off => Height::Missing,
-            Value::Absent => Height::Missing,
-        },
-    }
-}
-
-// The sensor's height: row 104, else row 75, else row 15.
-fn sensor_in(packet: &[u8], known: TagSet, places: &[u16; 128]) -> Height
-    requires { Placed known packet.now places.now }
-    ensures { height_said result ≡ given (sensor_in (rows_held known packet.now)) }
-{
-    match extended_at(packet, known, places, 104) {
-        Value::At(over) => Height::OverEllipsoid(EllipsoidHeight(over)),
-        Value::Off => Height::Missing,
-        Value::Absent => height_in(packet, known, places, 75, 15),
-    }
-}
-
-// The sensor's height.
-pub fn sensor_height(packet: &[u8], known: TagSet) -> Height
-    ensures { height_said result ≡ sensor_height known packet.now }
-{
-    let located = packet::locate(packet, known);
-    let answer = located.answer;
-    match answer {
-        Checked::Refused(refusal) => Height::Refused(refusal),
-        Checked::Accepted(_) => sensor_in(packet, known, &located.places),
-    }
-}
-
-// The frame centre's height: row 78, else row 25.
-pub fn frame_centre_height(packet: &[u8], known: TagSet) -> Height
-    ensures { height_said result ≡ frame_centre_height known packet.now }
-{
-    let located = packet::locate(packet, known);
-    let answer = located.answer;
-    match answer {
-        Checked::Refused(refusal) => Height::Refused(refusal),
-        Checked::Accepted(_) => height_in(packet, known, &located.places, 78, 25),
+        Ok(house) => Value::At(house.value),
+        Err(_) => Value::Off,
     }
 }
 
@@ -198,84 +68,178 @@ fn sum(centre: Value, offset: Value) -> Value
     requires { Small centre × Small offset }
     ensures { result ≡ sum_of centre offset }
 {
-    match centre {
-        Value::Absent => Value::Absent,
-        Value::Off => match offset {
-            Value::Absent => Value::Absent,
-            Value::Off => Value::Off,
-            Value::At(_) => Value::Off,
-        },
-        Value::At(from) => match offset {
-            Value::Absent => Value::Absent,
-            Value::Off => Value::Off,
-            Value::At(by) => Value::At(from + by),
-        },
+    match (centre, offset) {
+        (Value::Absent, _) => Value::Absent,
+        (_, Value::Absent) => Value::Absent,
+        (Value::At(from), Value::At(by)) => Value::At(from + by),
+        _ => Value::Off,
     }
 }
 
 // Two coordinates make a point where both are there; a mark in either puts it off the Earth.
 fn point_of(latitude: Value, longitude: Value) -> Corner
-    ensures { corner_said result ≡ given (point_of latitude longitude) }
+    ensures { corner_said result ≡ point_of latitude longitude }
 {
-    match latitude {
-        Value::Absent => Corner::Missing,
-        Value::Off => match longitude {
-            Value::Absent => Corner::Missing,
-            Value::Off => Corner::OffTheEarth,
-            Value::At(_) => Corner::OffTheEarth,
-        },
-        Value::At(north) => match longitude {
-            Value::Absent => Corner::Missing,
-            Value::Off => Corner::OffTheEarth,
-            Value::At(east) => Corner::At(Point {
-                latitude: north,
-                longitude: east,
-            }),
-        },
+    match (latitude, longitude) {
+        (Value::Absent, _) => Corner::Missing,
+        (_, Value::Absent) => Corner::Missing,
+        (Value::At(north), Value::At(east)) => Corner::At(Point {
+            latitude: north,
+            longitude: east,
+        }),
+        _ => Corner::OffTheEarth,
     }
 }
 
-fn full_corner(packet: &[u8], known: TagSet, places: &[u16; 128], k: u64) -> Corner
-    requires { Placed known packet.now places.now × (0 < k) × (k < 5) }
-    ensures { corner_said result ≡ given (full_corner k (rows_held known packet.now)) }
-{
-    let latitude = latitude_at(packet, known, places, 80 + 2 * k);
-    let longitude = longitude_at(packet, known, places, 81 + 2 * k);
-    point_of(latitude, longitude)
+// The tags of whose scales the others of their kind are.
+const HEIGHT: u64 = 15;
+
+const LATITUDE: u64 = 23;
+
+const LONGITUDE: u64 = 24;
+
+const OFFSET: u64 = 26;
+
+// An accepted packet, a receiver's tags, and for each tag below 128 where its value is found, 0 where there is none.
+#[derive(Clone, Copy)]
+struct Found<'a> {
+    packet: &'a [u8],
+    known: TagSet,
+    places: &'a [u16; 128],
+    ghost placed: { Placed known packet.now places.now },
 }
 
-fn offset_corner(packet: &[u8], known: TagSet, places: &[u16; 128], k: u64) -> Corner
-    requires { Placed known packet.now places.now × (0 < k) × (k < 5) }
-    ensures { corner_said result ≡ given (offset_corner k (rows_held known packet.now)) }
-{
-    let north = latitude_at(packet, known, places, 23);
-    let up = offset_at(packet, known, places, 24 + 2 * k);
-    let east = longitude_at(packet, known, places, 24);
-    let right = offset_at(packet, known, places, 25 + 2 * k);
-    let latitude = sum(north, up);
-    let longitude = sum(east, right);
-    point_of(latitude, longitude)
+impl<'a> Found<'a> {
+    // Where the value of a known tag is found.
+    fn place_of(self, tag: u64) -> Option<usize>
+        ensures { result ≡ place_found self.entry.known self.entry.places.now tag }
+    {
+        if tagset::has(self.known, tag) {
+            let place = self.places[tag as usize] as usize;
+            if 0 < place {
+                return Some(place);
+            }
+        }
+        None
+    }
+
+    // An extended height, by its place: before it stands its length.
+    fn extended_at(self, tag: u64) -> Value
+        requires { is_extended tag ≡ true }
+        ensures { result ≡ value_for tag (rows_held self.entry.known self.entry.packet.now) }
+    {
+        match self.place_of(tag) {
+            Some(place) => {
+                let length = self.packet[place - 1] as usize;
+                let end = place + length;
+                in_house(tag, length, number::value(&self.packet[place..end]))
+            }
+            None => Value::Absent,
+        }
+    }
+
+    // A value in the scale of the tag LIKE. That and the width are constants, so that the compiler works the scale out.
+    fn value_at<const LIKE: u64, const WIDTH: usize>(self, tag: u64) -> Value
+        requires { Like tag LIKE WIDTH }
+        ensures { result ≡ value_for tag (rows_held self.entry.known self.entry.packet.now) }
+    {
+        match self.place_of(tag) {
+            Some(end) => in_house(LIKE, WIDTH, number::value(&self.packet[end - WIDTH..end])),
+            None => Value::Absent,
+        }
+    }
+
+    // A height by its row over the ellipsoid, else by the one over mean sea level.
+    fn height_in(self, ellipsoid: u64, sea: u64) -> Height
+        requires { Like ellipsoid 15 2 × Like sea 15 2 }
+        ensures { height_said result ≡ height_in ellipsoid sea (rows_held self.entry.known self.entry.packet.now) }
+    {
+        match self.value_at::<HEIGHT, 2>(ellipsoid) {
+            Value::At(over) => Height::OverEllipsoid(EllipsoidHeight(over)),
+            Value::Off => Height::Missing,
+            Value::Absent => match self.value_at::<HEIGHT, 2>(sea) {
+                Value::At(above) => Height::OverSeaLevel(SeaLevelHeight(above)),
+                Value::Off | Value::Absent => Height::Missing,
+            },
+        }
+    }
+
+    // The sensor's height: row 104, else row 75, else row 15.
+    fn sensor_in(self) -> Height
+        ensures { height_said result ≡ sensor_in (rows_held self.entry.known self.entry.packet.now) }
+    {
+        match self.extended_at(104) {
+            Value::At(over) => Height::OverEllipsoid(EllipsoidHeight(over)),
+            Value::Off => Height::Missing,
+            Value::Absent => self.height_in(75, 15),
+        }
+    }
+
+    fn full_corner(self, k: u64) -> Corner
+        requires { (0 < k) × (k < 5) }
+        ensures { corner_said result ≡ full_corner k (rows_held self.entry.known self.entry.packet.now) }
+    {
+        let latitude = self.value_at::<LATITUDE, 4>(80 + 2 * k);
+        let longitude = self.value_at::<LONGITUDE, 4>(81 + 2 * k);
+        point_of(latitude, longitude)
+    }
+
+    fn offset_corner(self, k: u64) -> Corner
+        requires { (0 < k) × (k < 5) }
+        ensures { corner_said result ≡ offset_corner k (rows_held self.entry.known self.entry.packet.now) }
+    {
+        let north = self.value_at::<LATITUDE, 4>(23);
+        let up = self.value_at::<OFFSET, 2>(24 + 2 * k);
+        let east = self.value_at::<LONGITUDE, 4>(24);
+        let right = self.value_at::<OFFSET, 2>(25 + 2 * k);
+        let latitude = sum(north, up);
+        let longitude = sum(east, right);
+        point_of(latitude, longitude)
+    }
+
+    // The full rows decide where both are there, also by a mark.
+    fn plain_corner(self, k: u64) -> Corner
+        ensures { corner_said result ≡ plain_corner k (rows_held self.entry.known self.entry.packet.now) }
+    {
+        if k == 0 {
+            return Corner::Missing;
+        }
+        let past_last = 5 <= k;
+        if past_last {
+            return Corner::Missing;
+        }
+        let full = self.full_corner(k);
+        if let Corner::Missing = full {
+            return self.offset_corner(k);
+        }
+        full
+    }
 }
 
-// The full rows decide where both are there, also by a mark.
-fn plain_corner(packet: &[u8], known: TagSet, places: &[u16; 128], k: u64) -> Corner
-    requires { Placed known packet.now places.now }
-    ensures { corner_said result ≡ given (plain_corner k (rows_held known packet.now)) }
+// The sensor's height. Each of the three makes what is found itself: a function that makes it would be as long.
+pub fn sensor_height(packet: &[u8], known: TagSet) -> Result<Height, Refusal>
+    ensures { map height_said (answer_said result) ≡ sensor_height known packet.now }
 {
-    if k == 0 {
-        return Corner::Missing;
-    }
-    let past_last = 5 <= k;
-    if past_last {
-        return Corner::Missing;
-    }
-    let full = full_corner(packet, known, places, k);
-    match full {
-        Corner::Missing => offset_corner(packet, known, places, k),
-        Corner::OffTheEarth => full,
-        Corner::At(_) => full,
-        Corner::Refused(_) => full,
-    }
+    let located = packet::locate(packet, known)?;
+    let found = Found {
+        packet,
+        known,
+        places: &located.places,
+    };
+    Ok(found.sensor_in())
+}
+
+// The frame centre's height: row 78, else row 25.
+pub fn frame_centre_height(packet: &[u8], known: TagSet) -> Result<Height, Refusal>
+    ensures { map height_said (answer_said result) ≡ frame_centre_height known packet.now }
+{
+    let located = packet::locate(packet, known)?;
+    let found = Found {
+        packet,
+        known,
+        places: &located.places,
+    };
+    Ok(found.height_in(78, 25))
 }
 
 // As far as a latitude goes.
@@ -309,7 +273,7 @@ fn turn_for(longitude: i64) -> i64
 
 // A plain point as a place on the Earth: its longitude comes back by one turn, and beyond a pole there is none.
 fn point_on_earth(plain: Point) -> Corner
-    ensures { corner_said result ≡ given (on_earth (on plain.latitude plain.longitude)) }
+    ensures { corner_said result ≡ on_earth (on plain.latitude plain.longitude) }
 {
     if scale::is_outside(SOUTH_POLE, NORTH_POLE, plain.latitude) {
         return Corner::OffTheEarth;
@@ -322,24 +286,24 @@ fn point_on_earth(plain: Point) -> Corner
 }
 
 fn on_earth(plain: Corner) -> Corner
-    ensures { corner_said result ≡ map on_earth (corner_said plain) }
+    ensures { corner_said result ≡ on_earth (corner_said plain) }
 {
     match plain {
         Corner::At(point) => point_on_earth(point),
         Corner::OffTheEarth => plain,
         Corner::Missing => plain,
-        Corner::Refused(_) => plain,
     }
 }
 
 // Corner k of the picture on the ground, k from 1 to 4; any other k is missing.
-pub fn corner_at(packet: &[u8], known: TagSet, k: u64) -> Corner
-    ensures { corner_said result ≡ corner_of k known packet.now }
+pub fn corner_at(packet: &[u8], known: TagSet, k: u64) -> Result<Corner, Refusal>
+    ensures { map corner_said (answer_said result) ≡ corner_of k known packet.now }
 {
-    let located = packet::locate(packet, known);
-    let answer = located.answer;
-    match answer {
-        Checked::Refused(refusal) => Corner::Refused(refusal),
-        Checked::Accepted(_) => on_earth(plain_corner(packet, known, &located.places, k)),
-    }
+    let located = packet::locate(packet, known)?;
+    let found = Found {
+        packet,
+        known,
+        places: &located.places,
+    };
+    Ok(on_earth(found.plain_corner(k)))
 }

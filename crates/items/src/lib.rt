@@ -9,7 +9,7 @@ ghost use Rattle.tagset.specs.Sets.{holds, count_below};
 ghost use Rattle.catalogue.specs.Items.{item_of};
 ghost use Rattle.catalogue.specs.Rows.{rows, entry_at, all_tags, sign_by};
 
-use catalogue::{Entry, Found, Item, Sign};
+use catalogue::{Entry, Item, Sign};
 
 // House units: 10^-7 degree, mm, mm/s, 0.001 mbar, 0.001 percent, 0.001 degree C.
 const TABLE: [Entry; 67] = [
@@ -180,13 +180,13 @@ fn row_of(tag: u64) -> Entry
 }
 
 // What the catalogue has for a tag.
-pub fn item_of(tag: u64) -> Found
+pub fn item_of(tag: u64) -> Option<Item>
     ensures { result ≡ item_of tag }
 {
     let all = catalogue::all_tags();
     if tagset::has(all, tag) {
         let row = row_of(tag);
-        return Found::Known(Item {
+        return Some(Item {
             tag: row.0,
             width: row.1,
             sign: sign_of(row),
@@ -194,5 +194,5 @@ pub fn item_of(tag: u64) -> Found
             high: row.4,
         });
     }
-    Found::Absent
+    None
 }

@@ -16,12 +16,12 @@ use Rattle.tagset.proofs.Laws.{Words, Included, holds_none, within_included, inc
 use Rattle.catalogue.specs.Items.{groups, member, item_in, item_of}
 use Rattle.catalogue.specs.Rows.{all_tags}
 use Rattle.catalogue.specs.Shapes.{is_marked, shape_by, shape_of}
-use Rattle.catalogue.specs.declared.Found.{Found}
-use Rattle.catalogue.specs.declared.Found.TheVariants.{Known}
 use Rattle.catalogue.specs.declared.Shape.{Shape}
 use Rattle.catalogue.specs.declared.Shape.TheVariants.{Text, Number}
 use Rattle.catalogue.proofs.Laws.{item_held, item_none}
 use Rattle.knowing.specs.Good.{is_known, in_catalogue, good}
+use Rattle.std.specs.Prelude.{Option, Some, None}
+use Rattle.catalogue.specs.declared.Item.{Item}
 
 -- the whole catalogue's set holds just the catalogue's tags
 pub all_tags_catalogue : (t : ℕ) → holds all_tags t ≡ in_catalogue t
@@ -78,14 +78,14 @@ module _ (K : TagSet) (g : Good K) where
   unfolding in_catalogue shape_of
   known_there t e = listed (item_of t) (g.only t e)
     where
-      listed : (f : Found) → is_known f ≡ true → shape_by f ≡ Shape.Absent → ⊥
-      listed (Known i) k a =
+      listed : (f : Option Item) → is_known f ≡ true → shape_by f ≡ Shape.Absent → ⊥
+      listed (Some i) k a =
           by_bool (eqb i.width 0)
           (λ b. by_bool (lt_z i.low i.high)
           (λ l. let z : Number 2 4 false ≡ Shape.Absent = rw (b, l) at a in never (cc))
           (λ l. let z : Text ≡ Shape.Absent = rw (b, l) at a in never (cc)))
           (λ b. let z : Number i.width i.width (is_marked i.sign) ≡ Shape.Absent = rw b at a in never (cc))
-      listed Found.Absent k a = clash (sym k)
+      listed None k a = clash (sym k)
 
 -- 1, 2 and 65, as two words
 abbrev pub least : TagSet

@@ -1,15 +1,14 @@
 -- Document 01, The knowing set: "The set is good when it holds 1, 2 and 65 and nothing outside the catalogue."
-use Rattle.std.specs.Prelude.{ℕ, Bool, true, false, not, ◌&&◌, ◌||◌}
+use Rattle.std.specs.Prelude.{ℕ, Bool, true, false, not, ◌&&◌, ◌||◌, Option, Some, None}
 use Rattle.base.specs.Every.{all_below}
 use Rattle.tagset.specs.Sets.{holds}
 use Rattle.tagset.specs.declared.TagSet.{TagSet}
 use Rattle.catalogue.specs.Items.{item_of}
-use Rattle.catalogue.specs.declared.Found.{Found}
-use Rattle.catalogue.specs.declared.Found.TheVariants.{Known, Absent}
+use Rattle.catalogue.specs.declared.Item.{Item}
 
-abbrev pub is_known : Found → Bool
-is_known (Known i) = true
-is_known Absent = false
+abbrev pub is_known : Option Item → Bool
+is_known (Some i) = true
+is_known None = false
 
 unfoldable pub in_catalogue : ℕ → Bool
 in_catalogue t = is_known (item_of t)

@@ -12,8 +12,5 @@ pub fn is_good(s: TagSet) -> bool
     ensures { result ≡ good s }
 {
     let least = TagSet { low: 6, high: 2 };
-    if tagset::is_within(least, s) {
-        return tagset::is_within(s, catalogue::all_tags());
-    }
-    false
+    tagset::is_within(least, s) && tagset::is_within(s, catalogue::all_tags())
 }

@@ -1,7 +1,7 @@
 // Lists the packet on standard input for a person: place, tag, kind and value of each item, or the refusal.
 #![tactic(auto)]
 
-use listing::{LARGEST, Listing};
+use listing::LARGEST;
 use std::io;
 use std::io::Write;
 
@@ -11,9 +11,8 @@ fn main(rt: HostRuntime) -> io::Result<()> {
     let mut out = [0u8; LARGEST];
     let n = console::read_full(&mut rt.stdin(), &mut packet)?;
     match listing::list(&packet[..n], &mut out) {
-        Listing::Refused(refusal) => console::refused(&mut rt.stderr(), refusal)?,
-        Listing::Lines(listed) => {
-            let size = listed.size;
+        Err(refusal) => console::refused(&mut rt.stderr(), refusal)?,
+        Ok(size) => {
             if size <= LARGEST {
                 rt.stdout().write_all(&out[..size])?;
             }

@@ -11,7 +11,7 @@ use borrow.Author.Tests.{lt-leb, lt-ltb, le-ltb}
 use Rattle.base.specs.Every.{Each}
 use Rattle.base.specs.Putting.{put_into, Wrote}
 use Rattle.refusal.specs.Numbers.{number}
-use Rattle.refusal.specs.Answer.{given, refused, refusal}
+use Rattle.refusal.specs.Answer.{given, refused, refusal, answer_said}
 use Rattle.refusal.specs.declared.Refusal.{Refusal}
 use Rattle.number.specs.Stored.{Bytes}
 use Rattle.tagset.specs.Sets.{holds}
@@ -28,28 +28,25 @@ use Rattle.laws.proofs.Accepted.{accepted_allowed}
 use Rattle.laws.proofs.Sent.{Lies, formed_lie}
 use Rattle.refusal.proofs.Answers.{passed}
 use Rattle.laws.proofs.Tables.{Received, has_received, received_refused, items_count}
-use Rattle.reader.specs.Reads.{Reads, read_said}
-use Rattle.reader.specs.declared.Reading.{Reading}
-use Rattle.reader.specs.declared.Reading.TheVariants as reading
+use Rattle.reader.specs.Reads.{Reads}
 use Rattle.rows.specs.declared.Filled.{Filled}
 use Rattle.spelling.specs.Spelling.{decimal}
 use Rattle.listing.specs.Lines.{header, field, lines_of, refused_word, refused_line}
 use Rattle.listing.specs.Listing.{text_by, listing_of}
-use Rattle.listing.specs.Lists.{text_answer, list_said, Lists}
+use Rattle.listing.specs.Lists.{text_answer, Lists}
 use Rattle.listing.specs.Accepted.{list_answer, list_output, ListsAccepted}
 use Rattle.listing.specs.code.Listable.{InPacket, Listable}
-use Rattle.listing.specs.declared.Listing.{Listing}
-use Rattle.listing.specs.declared.Listing.TheVariants as listing
 use Rattle.listing.proofs.Sizes.{rows_short}
+use Rattle.std.specs.Prelude.{Result, Ok, Err}
 
-module _ {text o : List ℕ} {size : ℕ} (s : size ≡ length text) {r : Listing} where
-  pub does_not_fit : length o < size → list_said r ≡ refused 18 0 0 → Lists text o r o
+module _ {text o : List ℕ} {size : ℕ} (s : size ≡ length text) {r : Result ℕ Refusal} where
+  pub does_not_fit : length o < size → answer_said r ≡ refused 18 0 0 → Lists text o r o
   unfolding text_answer put_into
   does_not_fit h e =
       let k : length o < length text = rw s at h in
       record { answer = e ∙ rw (lt-ltb _ _ k); output = rw (zero-add, lt-leb _ _ k) }
 
-  pub fits : list_said r ≡ given size → {n : ℕ} {o' : List ℕ} → Wrote o 0 text n o' → Lists text o r o'
+  pub fits : answer_said r ≡ given size → {n : ℕ} {o' : List ℕ} → Wrote o 0 text n o' → Lists text o r o'
   unfolding text_answer
   fits e w =
       let k : length text ≤ length o = omega arith in
@@ -73,25 +70,25 @@ rows_inside K p (i ∷ is) l =
     (rw (digits_div i.place l.0.short, digits_mod i.place l.0.short) l.0.inside, rows_inside K p is l.1)
 
 -- a receiver of the whole catalogue, with a table of its own
-module _ {K : TagSet} (k : K ≡ all_tags) {p : List ℕ} {r : Reading} {t : List ℕ} (reads : Reads K p (replicate 512 0) r t) where
+module _ {K : TagSet} (k : K ≡ all_tags) {p : List ℕ} {r : Result Filled Refusal} {t : List ℕ} (reads : Reads K p (replicate 512 0) r t) where
   reads_all : Reads all_tags p (replicate 512 0) r t
   reads_all = rw (← k) reads
 
-  module _ {x : Refusal} (e : r ≡ reading.Refused x) where
+  module _ {x : Refusal} (e : r ≡ Err x) where
     refused_so : received all_tags p ≡ refusal x
-    refused_so = received_refused all_tags p (replicate 512 0) (omega arith) _ _ _ (sym reads_all.answer ∙ ap read_said e)
+    refused_so = received_refused all_tags p (replicate 512 0) (omega arith) _ _ _ (sym reads_all.answer ∙ ap answer_said e)
 
     pub lists_refusal : refused_line (number x.reason) x.place x.tag ≡ listing_of p
     unfolding listing_of
     lists_refusal = ap (text_by p) (sym refused_so)
 
-    pub refuses_list : (o : List ℕ) → ListsAccepted p o (listing.Refused x) o
+    pub refuses_list : (o : List ℕ) (l : Result ℕ Refusal) → answer_said l ≡ refusal x → ListsAccepted p o l o
     unfolding list_answer list_output checked
-    refuses_list o = record { answer = rw refused_so; output = rw refused_so }
+    refuses_list o l s = record { answer = rw refused_so s; output = rw refused_so }
 
-  module _ {x : Filled} (e : r ≡ reading.Rows x) where
+  module _ {x : Filled} (e : r ≡ Ok x) where
     read : Received all_tags p (replicate 512 0) x
-    read = has_received all_tags p (replicate 512 0) x (sym reads_all.answer ∙ ap read_said e)
+    read = has_received all_tags p (replicate 512 0) x (sym reads_all.answer ∙ ap answer_said e)
 
     same_rows : rows_in 0 x.count t ≡ rows_of (holds all_tags) read.items
     same_rows = ap (rows_in 0 x.count) reads_all.table ∙ read.rows
@@ -100,7 +97,7 @@ module _ {K : TagSet} (k : K ≡ all_tags) {p : List ℕ} {r : Reading} {t : Lis
     unfolding listing_of
     lists_rows = ap (λ rs. header ++ lines_of p rs) same_rows ∙ ap (text_by p) (sym read.accepted)
 
-    pub lists_accepted : {o : List ℕ} {l : Listing} {o' : List ℕ} → Lists (header ++ lines_of p (rows_in 0 x.count t)) o l o' → ListsAccepted p o l o'
+    pub lists_accepted : {o : List ℕ} {l : Result ℕ Refusal} {o' : List ℕ} → Lists (header ++ lines_of p (rows_in 0 x.count t)) o l o' → ListsAccepted p o l o'
     unfolding list_answer list_output checked
     lists_accepted {o} {l} {o'} h =
         let g : Lists (listing_of p) o l o' = rw (← lists_rows) h in

@@ -3,39 +3,27 @@
 -- Assumes nothing.
 use Prim.Native.Nat.{ℕ, ◌≤◌}
 use native.Mathlib.Omega.{arith}
-use mathlib.Core.Path.{◌≡◌, refl, sym, ◌∙◌}
+use mathlib.Core.Path.{◌≡◌, sym, ◌∙◌}
 use mathlib.Core.List.{List}
 use lib.ListN.{length}
 use borrow.Author.Tests.{le-ltb}
 use Rattle.base.specs.Determined.{Determined}
 use Rattle.refusal.specs.Answer.{given}
-use Rattle.refusal.proofs.Laws.{made, refuse_made, told_apart}
+use Rattle.refusal.proofs.Laws.{answer_apart}
 use Rattle.number.specs.Stored.{Bytes}
 use Rattle.listing.specs.Listing.{listing_of, largest}
-use Rattle.listing.specs.Lists.{text_answer, list_said}
-use Rattle.listing.specs.declared.Listing.{Listing}
-use Rattle.listing.specs.declared.Listing.TheVariants.{Lines, Refused}
+use Rattle.listing.specs.Lists.{text_answer}
 use Rattle.listing.proofs.Sizes.{listing_short}
 use Rattle.listing.proofs.list.Kinds as list-kinds
 use Rattle.listing.proofs.list.Reads as list-reads
 use Rattle.listing.proofs.list_accepted.Kinds as accepted-kinds
 use Rattle.listing.proofs.list_accepted.Reads as accepted-reads
 
-abbrev listed_so : ℕ → Listing
-listed_so n = Lines (record { size = n })
-
-as_said : (a : Listing) → made listed_so Refused (list_said a) ≡ a
-as_said (Lines x) = refl
-as_said (Refused r) = refuse_made listed_so Refused r
-
-pub listing_apart : (a b : Listing) → list_said a ≡ list_said b → a ≡ b
-listing_apart = told_apart listed_so Refused list_said as_said
-
 pub list_determined : Determined 2 list-kinds.ps list-kinds.r list-reads.Post (List ℕ) (λ κs e. e.1.0.now)
-list_determined κs a z z' e e' p q = (listing_apart z z' (p.answer ∙ sym q.answer), p.output ∙ sym q.output)
+list_determined κs a z z' e e' p q = (answer_apart z z' (p.answer ∙ sym q.answer), p.output ∙ sym q.output)
 
 pub list_accepted_determined : Determined 2 accepted-kinds.ps accepted-kinds.r accepted-reads.Post (List ℕ) (λ κs e. e.1.0.now)
-list_accepted_determined κs a z z' e e' p q = (listing_apart z z' (p.answer ∙ sym q.answer), p.output ∙ sym q.output)
+list_accepted_determined κs a z z' e e' p q = (answer_apart z z' (p.answer ∙ sym q.answer), p.output ∙ sym q.output)
 
 pub largest_enough : (p o : List ℕ) → Bytes p → largest ≤ length o → text_answer (listing_of p) o ≡ given (length (listing_of p))
 unfolding text_answer

@@ -1,11 +1,11 @@
--- Lines row by row: those that are left, and the output that they will make.
+-- Lines row by row: those of a table's rows from one of them on.
 -- Assumes nothing.
-use Prim.Native.Nat.{ℕ, ◌+◌, ◌*◌, ◌-◌, ◌<◌, ◌≤◌}
+use Prim.Native.Nat.{ℕ, zero, suc, ◌+◌, ◌*◌, ◌-◌, ◌<◌, ◌≤◌}
 use native.Mathlib.Omega.{arith}
-use native.Mathlib.Nat.{sub-zero, le_trans}
-use mathlib.Core.Path.{◌≡◌}
+use native.Mathlib.Nat.{sub-zero, add-zero, zero-add, le_trans}
+use mathlib.Core.Path.{◌≡◌, ap}
 use mathlib.Core.Bool.{true}
-use mathlib.Core.List.{List, [], ◌∷◌, ◌++◌}
+use mathlib.Core.List.{List, [], ◌++◌}
 use lib.Dec.{leb}
 use lib.ListN.{length, length-append}
 use borrow.Author.Tests.{le-leb}
@@ -19,92 +19,67 @@ use Rattle.laws.proofs.Tables.{rows-from, rows_none, rows_count}
 use Rattle.listing.specs.Lines.{header, line_of, lines_of}
 use Rattle.listing.specs.code.Listable.{InPacket, Listable}
 
--- rows are left, and their lines are so long
-pub record Uncounted (p : List ℕ) (rs : List RowWords) (size total : ℕ) : Type 0 where
-  pub inside : Each (InPacket p) rs
-  pub sum : size + length (lines_of p rs) ≡ total
+row_inside : (p words : List ℕ) (k count n : ℕ) → Each (InPacket p) (rows_in k count words) → n < count → InPacket p (row_at words (k + n))
+unfolding rows_in
+row_inside p words k zero n l h = absurd (omega arith)
+row_inside p words k (suc count) zero l h = rw add-zero l.0
+row_inside p words k (suc count) (suc n) l h = let e : k + suc n ≡ suc k + n = omega arith in rw e (row_inside p words (suc k) count n l.1 (omega arith))
 
--- rows are left, and put at a place their lines make the output x and end at a place
-pub record Unwritten (p : List ℕ) (rs : List RowWords) (o : List ℕ) (at : ℕ) (x : List ℕ) (end : ℕ) : Type 0 where
-  pub inside : Each (InPacket p) rs
-  pub rest : Wrote o at (lines_of p rs) end x
+-- the lines of the rows from the one numbered n on
+abbrev pub lines_from : List ℕ → List ℕ → ℕ → ℕ → List ℕ
+lines_from p words n count = lines_of p (rows_in n (count - n) words)
 
-module _ (p : List ℕ) (r : RowWords) (rs : List RowWords) where
-  both_long : length (lines_of p (r ∷ rs)) ≡ length (line_of p r) + length (lines_of p rs)
-  unfolding lines_of
-  both_long = length-append (line_of p r) (lines_of p rs)
-
-  one_counted : {size total : ℕ} → Uncounted p (r ∷ rs) size total → Uncounted p rs (size + length (line_of p r)) total
-  one_counted u = record { inside = u.inside.1; sum = omega (arith, u.sum, both_long) }
-
-  module _ {o : List ℕ} {at : ℕ} {x : List ℕ} {end : ℕ} (u : Unwritten p (r ∷ rs) o at x end) where
-    line_room : Room o at (line_of p r)
-    unfolding lines_of
-    line_room = room_first (lines_of p rs) (wrote_room u.rest)
-
-    one_written : {m : ℕ} {o₁ : List ℕ} → Wrote o at (line_of p r) m o₁ → Unwritten p rs o₁ m x end
-    unfolding lines_of
-    one_written w = record { inside = u.inside.1; rest = wrote_rest w u.rest }
-
--- the rows of a table from the one numbered n on
 module _ (p words : List ℕ) (n count : ℕ) where
-  abbrev left : List RowWords
-  left = rows_in n (count - n) words
+  lines_none : count ≤ n → lines_from p words n count ≡ []
+  unfolding lines_of
+  lines_none h = ap (lines_of p) (rows_none words n count h)
 
-  abbrev after : List RowWords
-  after = rows_in (n + 1) (count - (n + 1)) words
+  pub all_counted : {size total : ℕ} → count ≤ n → size + length (lines_from p words n count) ≡ total → size ≡ total
+  all_counted h e = omega (arith, rw (lines_none h) at e)
 
-  module _ {size total : ℕ} (u : Uncounted p left size total) where
-    pub all_counted : count ≤ n → size ≡ total
+  pub all_written : {o : List ℕ} {at : ℕ} {x : List ℕ} {end : ℕ} → count ≤ n → Wrote o at (lines_from p words n count) end x → (end ≡ at) × (x ≡ o)
+  all_written h w = wrote_nothing (rw (lines_none h) at w)
+
+  -- the line of the row numbered n, as the code has it
+  module _ (h : n < count) {q : List ℕ} {r : RowWords} (here : (q ≡ p) × (r ≡ row_at words n)) where
+    lines_first : lines_from p words n count ≡ line_of q r ++ lines_from p words (n + 1) count
     unfolding lines_of
-    all_counted h = let v : Uncounted p [] size total = rw (rows_none words n count h) at u in omega (arith, v.sum)
+    lines_first = rw (here.0, here.1) (ap (lines_of p) (rows-from words n count h))
 
-    module _ (h : n < count) (r : RowWords) (e : r ≡ row_at words n) where
-      this_uncounted : Uncounted p (r ∷ after) size total
-      this_uncounted = rw e (rw (rows-from words n count h) at u)
+    pub counted : {line : ℕ} → line ≡ length (line_of q r) → line + length (lines_from p words (n + 1) count) ≡ length (lines_from p words n count)
+    counted e = rw (lines_first, length-append) (omega arith)
 
-      pub to_count : InPacket p r
-      to_count = this_uncounted.inside.0
+    module _ {o : List ℕ} {at : ℕ} {x : List ℕ} {end : ℕ} (w : Wrote o at (lines_from p words n count) end x) where
+      pub line_room : Room o at (line_of q r)
+      line_room = room_first (lines_from p words (n + 1) count) (wrote_room (rw lines_first at w))
 
-      pub counted : (line : ℕ) → line ≡ length (line_of p r) → Uncounted p after (size + line) total
-      counted line f = rw f (one_counted p r after this_uncounted)
+      pub written : {m : ℕ} {o₁ : List ℕ} → Wrote o at (line_of q r) m o₁ → Wrote o₁ m (lines_from p words (n + 1) count) end x
+      written v = wrote_rest v (rw lines_first at w)
 
-      pub within : (line : ℕ) → line ≡ length (line_of p r) → size + line ≤ total
-      within line f = omega (arith, f, this_uncounted.sum, both_long p r after)
-
-  module _ {o : List ℕ} {at : ℕ} {x : List ℕ} {end : ℕ} (u : Unwritten p left o at x end) where
-    pub all_written : count ≤ n → (end ≡ at) × (x ≡ o)
-    unfolding lines_of
-    all_written h = let v : Unwritten p [] o at x end = rw (rows_none words n count h) at u in wrote_nothing v.rest
-
-    module _ (h : n < count) (r : RowWords) (e : r ≡ row_at words n) where
-      this_unwritten : Unwritten p (r ∷ after) o at x end
-      this_unwritten = rw e (rw (rows-from words n count h) at u)
-
-      pub line_asks : InPacket p r × Room o at (line_of p r)
-      line_asks = (this_unwritten.inside.0, line_room p r after this_unwritten)
-
-      pub written : {m : ℕ} {o₁ : List ℕ} → Wrote o at (line_of p r) m o₁ → Unwritten p after o₁ m x end
-      written w = one_written p r after this_unwritten w
-
--- all rows are left
-module _ (p words : List ℕ) (count : ℕ) (l : Listable p (rows_in 0 count words)) where
-  pub none_counted : Uncounted p (rows_in 0 (count - 0) words) 0 (length (lines_of p (rows_in 0 count words)))
-  none_counted = rw sub-zero (record { inside = l.inside; sum = omega arith })
+module _ (p words : List ℕ) (count : ℕ) where
+  pub lines_all : lines_from p words 0 count ≡ lines_of p (rows_in 0 count words)
+  lines_all = rw sub-zero
 
   abbrev lines : List ℕ
   lines = lines_of p (rows_in 0 count words)
 
-  pub lines_few : count ≤ 128
-  lines_few = rw (rows_count 0 count words) at l.few
+  -- what putting all of them will come to
+  pub none_written : {o : List ℕ} {from : ℕ} → Room o from lines → Wrote o from (lines_from p words 0 count) (from + length lines) (put_into o from lines)
+  none_written h = rw lines_all (to_write h)
 
-  lines_most : length (header ++ lines) ≤ 21 + 42 * count + 2 * length p
-  unfolding header
-  lines_most = let s = rw (rows_count 0 count words) at l.short in rw length-append (omega arith)
+  module _ (l : Listable p (rows_in 0 count words)) where
+    pub line_inside : (n : ℕ) → n < count → {r : RowWords} → r ≡ row_at words n → InPacket p r
+    line_inside n h e = rw (e, ← zero-add n) (row_inside p words 0 count n l.inside h)
 
-  pub lines_within : (room : ℕ) → 21 + 42 * count + 2 * length p ≤ room → leb (length (header ++ lines)) room ≡ true
-  lines_within room h = le-leb _ _ (le_trans lines_most h)
+    pub lines_few : count ≤ 128
+    lines_few = rw (rows_count 0 count words) at l.few
 
-  pub none_written : {o : List ℕ} {from : ℕ} → Room o from lines
-      → Unwritten p (rows_in 0 (count - 0) words) o from (put_into o from lines) (from + length lines)
-  none_written h = rw sub-zero (record { inside = l.inside; rest = to_write h })
+    pub lines_short : length lines ≤ 42 * count + 2 * length p
+    lines_short = rw (rows_count 0 count words) at l.short
+
+    lines_most : length (header ++ lines) ≤ 21 + 42 * count + 2 * length p
+    unfolding header
+    lines_most = rw length-append (omega (arith, lines_short))
+
+    pub lines_within : (room : ℕ) → 21 + 42 * count + 2 * length p ≤ room → leb (length (header ++ lines)) room ≡ true
+    lines_within room h = le-leb _ _ (le_trans lines_most h)

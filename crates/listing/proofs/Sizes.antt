@@ -34,6 +34,7 @@ use Rattle.spelling.proofs.Digits.{decimal_few}
 use Rattle.spelling.proofs.Laws.{decimal_short, hex_length}
 use Rattle.listing.specs.Lines.{header, number_word, mark_word, text_word, carried_word, withdrawn_word, refused_word}
 use Rattle.listing.specs.Lines.{field, number_text, content_text, line_of, lines_of, refused_line}
+use Rattle.listing.specs.code.Listable.{reading_text}
 use Rattle.listing.specs.Listing.{text_by, listing_of, largest}
 
 field_short : (n k : ℕ) → 0 < k → n < 10 ^ k → length (field n) ≤ k + 1
@@ -73,8 +74,8 @@ content_most p r =
     omega (arith, content_short p r, l, s)
 
 -- the sizes that the code adds up
-pub number_few : (tag n code : ℕ) {size : ℕ} → size ≡ length (number_text (to_house tag n code) code) → size ≤ 21
-number_few tag n code e = omega (arith, number_most (to_house tag n code) code)
+pub number_few : (r : RowWords) {size : ℕ} → size ≡ length (reading_text r) → size ≤ 21
+number_few r e = omega (arith, number_most (to_house r.tag (part_length r.part) r.code) r.code)
 
 pub decimal_fits : (n : ℕ) {size : ℕ} → size ≡ length (decimal n) → size ≤ 20
 decimal_fits n e = omega (arith, decimal_few n)

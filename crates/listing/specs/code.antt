@@ -1,1 +1,2 @@
 pub mod Listable
+pub mod Writes

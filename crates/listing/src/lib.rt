@@ -2,271 +2,310 @@
 // The contract gives every byte; an output that is too short is left as it was.
 #![tactic(auto)]
 
-ghost use Rattle.std.specs.Prelude.{◌≡◌, ◌++◌, leb, length};
+ghost use Rattle.std.specs.Prelude.{◌≡◌, ◌<◌, ◌++◌, leb, length};
 ghost use Rattle.base.specs.Putting.{Room, Wrote};
 ghost use Rattle.refusal.specs.Numbers.{number};
-ghost use Rattle.refusal.specs.Answer.{refused};
+ghost use Rattle.refusal.specs.Answer.{answer_said};
+ghost use Rattle.rows.specs.Taken.{part_place, part_length, row_at};
 ghost use Rattle.packet.specs.Rows.{rows_in, bytes_at};
 ghost use Rattle.scale.specs.Conversions.{to_house};
-ghost use Rattle.spelling.specs.Spelling.{decimal, hex};
-ghost use Rattle.listing.specs.Lines.{header, field, number_text, content_text, line_of, lines_of, refused_line};
+ghost use Rattle.spelling.specs.Spelling.{decimal, whole, hex};
+ghost use Rattle.listing.specs.Lines.{header, field, content_text, line_of, lines_of, refused_line};
 ghost use Rattle.listing.specs.Listing.{listing_of};
-ghost use Rattle.listing.specs.Lists.{Lists, list_said};
+ghost use Rattle.listing.specs.Lists.{Lists};
 ghost use Rattle.listing.specs.Accepted.{ListsAccepted};
-ghost use Rattle.listing.specs.code.Listable.{InPacket, Listable};
+ghost use Rattle.listing.specs.code.Writes.{HasRoom, Writes};
+ghost use Rattle.listing.specs.code.Listable.{InPacket, Listable, listable_prop, reading_text};
 
-use reader::Reading;
-use refusal::{Reason, Refusal};
+use refusal::{Reason, Refusal, refused};
 use rows::RowWords;
-use scale::ToHouse;
+use scale::House;
 
 // No listing has more bytes.
 pub const LARGEST: usize = 21781;
 
-// A listing: how many bytes of the output it takes.
+// A lent output, and the place in it that is put to next.
+#[derive(Drop)]
+struct Output<'a> {
+    bytes: &'a mut [u8],
+    at: usize,
+}
+
+impl Output<'_> {
+    // Text as it is.
+    fn word(&mut self, word: &[u8])
+        requires { HasRoom self.old word.now }
+        ensures { Writes self.old word.now self.new }
+    {
+        self.at += spelling::put_text(self.bytes, self.at, word);
+    }
+
+    fn decimal(&mut self, n: u64)
+        requires { HasRoom self.old (decimal n) }
+        ensures { Writes self.old (decimal n) self.new }
+    {
+        self.at += spelling::put_decimal(self.bytes, self.at, n);
+    }
+
+    fn whole(&mut self, value: i64)
+        requires { HasRoom self.old (whole value) }
+        ensures { Writes self.old (whole value) self.new }
+    {
+        self.at += spelling::put_whole(self.bytes, self.at, value);
+    }
+
+    fn hex(&mut self, value: &[u8])
+        requires { HasRoom self.old (hex value.now) }
+        ensures { Writes self.old (hex value.now) self.new }
+    {
+        self.at += spelling::put_hex(self.bytes, self.at, value);
+    }
+
+    // A number and a tab.
+    fn field(&mut self, n: u64)
+        requires { HasRoom self.old (field n) }
+        ensures { Writes self.old (field n) self.new }
+    {
+        self.decimal(n);
+        self.word(b"\t");
+    }
+}
+
+// A row of a packet in which its value lies. Its kind is a word of the table (rows::READING and the others), which the C interface lends.
 #[derive(Clone, Copy)]
-pub struct Listed {
-    pub size: usize,
+struct Line<'a> {
+    packet: &'a [u8],
+    row: RowWords,
+    ghost inside: { InPacket packet.now row },
 }
 
+impl Line<'_> {
+    fn place(&self) -> u64
+        ensures { result ≡ part_place self.now.row.part }
+    {
+        self.row.part / 65536
+    }
+
+    fn length(&self) -> usize
+        ensures { result ≡ part_length self.now.row.part }
+    {
+        (self.row.part % 65536) as usize
+    }
+
+    // The bytes of text or of a carried value.
+    fn value(&self) -> &[u8]
+        ensures { result.now ≡ bytes_at self.now.packet.now self.now.row }
+    {
+        let place = self.place() as usize;
+        &self.packet[place..place + self.length()]
+    }
+
+    // A reading in house units, where it is scaled.
+    fn house(&self) -> Result<House, Refusal>
+        ensures { answer_said result ≡ to_house self.now.row.tag (part_length self.now.row.part) self.now.row.code }
+    {
+        scale::to_house(self.row.tag, self.length(), self.row.code)
+    }
+
+    // How many characters a reading has: in house units where scaled, else its code.
+    fn number_size(&self) -> usize
+        ensures { result ≡ length (reading_text self.now.row) }
+    {
+        match self.house() {
+            Ok(house) => spelling::whole_size(house.value),
+            Err(_) => spelling::decimal_size(self.row.code),
+        }
+    }
+
+    // How many its kind and value have, with the tab between them.
+    fn content_size(&self) -> usize
+        ensures { result ≡ length (content_text self.now.packet.now self.now.row) }
+    {
+        match self.row.kind {
+            rows::READING => 7 + self.number_size(),
+            rows::MARK => 6,
+            rows::TEXT => 5 + 2 * self.length(),
+            rows::WITHDRAWN => 10,
+            _ => 8 + 2 * self.length(),
+        }
+    }
+
+    fn size(&self) -> usize
+        ensures { result ≡ length (line_of self.now.packet.now self.now.row) }
+    {
+        let fields = spelling::decimal_size(self.place())
+            + spelling::decimal_size(self.row.tag)
+            + 2;
+        fields + self.content_size() + 1
+    }
+
+    // A reading: in house units where scaled, else its code.
+    fn put_number(&self, out: &mut Output)
+        requires { HasRoom out.old (reading_text self.now.row) }
+        ensures { Writes out.old (reading_text self.now.row) out.new }
+    {
+        match self.house() {
+            Ok(house) => out.whole(house.value),
+            Err(_) => out.decimal(self.row.code),
+        }
+    }
+
+    // Its kind and value, with the tab between them.
+    fn put_content(&self, out: &mut Output)
+        requires { HasRoom out.old (content_text self.now.packet.now self.now.row) }
+        ensures { Writes out.old (content_text self.now.packet.now self.now.row) out.new }
+    {
+        match self.row.kind {
+            rows::READING => {
+                out.word(b"number\t");
+                self.put_number(out);
+            }
+            rows::MARK => out.word(b"mark\t-"),
+            rows::TEXT => {
+                out.word(b"text\t");
+                out.hex(self.value());
+            }
+            rows::WITHDRAWN => out.word(b"withdrawn\t"),
+            _ => {
+                out.word(b"carried\t");
+                out.hex(self.value());
+            }
+        }
+    }
+
+    fn put(&self, out: &mut Output)
+        requires { HasRoom out.old (line_of self.now.packet.now self.now.row) }
+        ensures { Writes out.old (line_of self.now.packet.now self.now.row) out.new }
+    {
+        out.field(self.place());
+        out.field(self.row.tag);
+        self.put_content(out);
+        out.word(b"\n");
+    }
+}
+
+// The rows of an accepted packet, of which each is a line.
 #[derive(Clone, Copy)]
-pub enum Listing {
-    Lines(Listed),
-    Refused(Refusal),
+struct Table<'a> {
+    packet: &'a [u8],
+    words: &'a [u64],
+    count: usize,
+    ghost listable: { Listable packet.now (rows_in 0 count words.now) } by { listable_prop packet.now (rows_in 0 count words.now) },
 }
 
-// How many characters a reading has: in house units where scaled, else its code.
-fn number_size(tag: u64, bytes: usize, code: u64) -> usize
-    ensures { result ≡ length (number_text (to_house tag bytes code) code) }
-{
-    match scale::to_house(tag, bytes, code) {
-        ToHouse::Is(house) => spelling::whole_size(house.value),
-        ToHouse::Refused(_) => spelling::decimal_size(code),
+impl<'a> Table<'a> {
+    fn line(&self, n: usize) -> Line<'a>
+        requires { n < self.now.count }
+        ensures { (result.packet.now ≡ self.now.packet.now) × (result.row ≡ row_at self.now.words.now n) }
+    {
+        Line {
+            packet: self.packet,
+            row: rows::row_at(self.words, n),
+        }
     }
-}
 
-// How many a row's kind and value have, with the tab between them.
-fn content_size(packet: &[u8], row: RowWords) -> usize
-    requires { InPacket packet.now row }
-    ensures { result ≡ length (content_text packet.now row) }
-{
-    let bytes = (row.part % 65536) as usize;
-    if row.kind == rows::READING {
-        return 7 + number_size(row.tag, bytes, row.code);
+    fn size(&self) -> usize
+        ensures { result ≡ length (lines_of self.now.packet.now (rows_in 0 self.now.count self.now.words.now)) }
+    {
+        let mut size: usize = 0;
+        for n in 0..self.count {
+            size += self.line(n).size();
+        }
+        size
     }
-    if row.kind == rows::MARK {
-        return 6;
+
+    // Whether the header and the lines fit: by the most that so many lines take, and only where that is more than there is by their size.
+    fn fits(&self, room: usize) -> bool
+        ensures { result ≡ leb (length (header ++ lines_of self.now.packet.now (rows_in 0 self.now.count self.now.words.now))) room }
+    {
+        let most = 21 + 42 * self.count + 2 * self.packet.len();
+        if most <= room {
+            return true;
+        }
+        21 + self.size() <= room
     }
-    if row.kind == rows::TEXT {
-        return 5 + 2 * bytes;
+
+    fn put_lines(&self, out: &mut Output)
+        requires { HasRoom out.old (lines_of self.now.packet.now (rows_in 0 self.now.count self.now.words.now)) }
+        ensures { Writes out.old (lines_of self.now.packet.now (rows_in 0 self.now.count self.now.words.now)) out.new }
+    {
+        for n in 0..self.count {
+            self.line(n).put(out);
+        }
     }
-    if row.kind == rows::WITHDRAWN {
-        return 10;
+
+    // The header and the lines, where they fit.
+    fn list(&self, out: &mut [u8]) -> Result<usize, Refusal>
+        ensures { Lists (header ++ lines_of self.now.packet.now (rows_in 0 self.now.count self.now.words.now)) out.old result out.new }
+    {
+        let fit = self.fits(out.len());
+        if !fit {
+            return refused(Reason::OutputTooShort, 0, 0);
+        }
+        let mut text = Output { bytes: out, at: 0 };
+        text.word(b"place\ttag\tkind\tvalue\n");
+        self.put_lines(&mut text);
+        Ok(text.at)
     }
-    8 + 2 * bytes
-}
-
-fn line_size(packet: &[u8], row: RowWords) -> usize
-    requires { InPacket packet.now row }
-    ensures { result ≡ length (line_of packet.now row) }
-{
-    let place = row.part / 65536;
-    let fields = spelling::decimal_size(place) + spelling::decimal_size(row.tag) + 2;
-    fields + content_size(packet, row) + 1
-}
-
-fn lines_size(packet: &[u8], words: &[u64], count: usize) -> usize
-    requires { Listable packet.now (rows_in 0 count words.now) }
-    ensures { result ≡ length (lines_of packet.now (rows_in 0 count words.now)) }
-{
-    let mut size: usize = 0;
-    let mut n: usize = 0;
-    while n < count {
-        let row = rows::row_at(words, n);
-        size += line_size(packet, row);
-        n += 1;
-    }
-    size
-}
-
-// Text as it is, at a place that has room for it; and the place after it.
-fn put_word(out: &mut [u8], at: usize, word: &[u8]) -> usize
-    requires { Room out.old at word.now }
-    ensures { Wrote out.old at word.now result out.new }
-{
-    at + spelling::put_text(out, at, word)
-}
-
-fn put_decimal(out: &mut [u8], at: usize, n: u64) -> usize
-    requires { Room out.old at (decimal n) }
-    ensures { Wrote out.old at (decimal n) result out.new }
-{
-    at + spelling::put_decimal(out, at, n)
-}
-
-// A number and a tab.
-fn put_field(out: &mut [u8], at: usize, n: u64) -> usize
-    requires { Room out.old at (field n) }
-    ensures { Wrote out.old at (field n) result out.new }
-{
-    let after = put_decimal(out, at, n);
-    put_word(out, after, b"\t")
-}
-
-// A reading: in house units where scaled, else its code.
-fn put_number(out: &mut [u8], at: usize, tag: u64, bytes: usize, code: u64) -> usize
-    requires { Room out.old at (number_text (to_house tag bytes code) code) }
-    ensures { Wrote out.old at (number_text (to_house tag bytes code) code) result out.new }
-{
-    match scale::to_house(tag, bytes, code) {
-        ToHouse::Is(house) => at + spelling::put_whole(out, at, house.value),
-        ToHouse::Refused(_) => put_decimal(out, at, code),
-    }
-}
-
-// The bytes of text or of a carried value.
-fn put_value(out: &mut [u8], at: usize, packet: &[u8], row: RowWords) -> usize
-    requires { InPacket packet.now row × Room out.old at (hex (bytes_at packet.now row)) }
-    ensures { Wrote out.old at (hex (bytes_at packet.now row)) result out.new }
-{
-    let part = row.part;
-    let place = (part / 65536) as usize;
-    let end = place + (part % 65536) as usize;
-    at + spelling::put_hex(out, at, &packet[place..end])
-}
-
-// A row's kind and value, with the tab between them.
-fn put_content(out: &mut [u8], at: usize, packet: &[u8], row: RowWords) -> usize
-    requires { InPacket packet.now row × Room out.old at (content_text packet.now row) }
-    ensures { Wrote out.old at (content_text packet.now row) result out.new }
-{
-    if row.kind == rows::READING {
-        let value = put_word(out, at, b"number\t");
-        let bytes = (row.part % 65536) as usize;
-        return put_number(out, value, row.tag, bytes, row.code);
-    }
-    if row.kind == rows::MARK {
-        return put_word(out, at, b"mark\t-");
-    }
-    if row.kind == rows::TEXT {
-        let value = put_word(out, at, b"text\t");
-        return put_value(out, value, packet, row);
-    }
-    if row.kind == rows::WITHDRAWN {
-        return put_word(out, at, b"withdrawn\t");
-    }
-    let value = put_word(out, at, b"carried\t");
-    put_value(out, value, packet, row)
-}
-
-fn put_line(out: &mut [u8], at: usize, packet: &[u8], row: RowWords) -> usize
-    requires { InPacket packet.now row × Room out.old at (line_of packet.now row) }
-    ensures { Wrote out.old at (line_of packet.now row) result out.new }
-{
-    let second = put_field(out, at, row.part / 65536);
-    let third = put_field(out, second, row.tag);
-    let end = put_content(out, third, packet, row);
-    put_word(out, end, b"\n")
-}
-
-fn put_lines(out: &mut [u8], from: usize, packet: &[u8], words: &[u64], count: usize) -> usize
-    requires { Listable packet.now (rows_in 0 count words.now) × Room out.old from (lines_of packet.now (rows_in 0 count words.now)) }
-    ensures { Wrote out.old from (lines_of packet.now (rows_in 0 count words.now)) result out.new }
-{
-    let mut at = from;
-    let mut n: usize = 0;
-    while n < count {
-        let row = rows::row_at(words, n);
-        at = put_line(out, at, packet, row);
-        n += 1;
-    }
-    at
-}
-
-fn too_short() -> Listing
-    ensures { list_said result ≡ refused 18 0 0 }
-{
-    Listing::Refused(Refusal {
-        reason: Reason::OutputTooShort,
-        place: 0,
-        tag: 0,
-    })
-}
-
-// Whether the header and the lines fit: by the most that so many lines take, and only where that is more than there is by their size.
-fn lines_fit(packet: &[u8], words: &[u64], count: usize, room: usize) -> bool
-    requires { Listable packet.now (rows_in 0 count words.now) }
-    ensures { result ≡ leb (length (header ++ lines_of packet.now (rows_in 0 count words.now))) room }
-{
-    let most = 21 + 42 * count + 2 * packet.len();
-    if most <= room {
-        return true;
-    }
-    let size = 21 + lines_size(packet, words, count);
-    size <= room
-}
-
-// The header and a line for each row.
-fn list_rows(packet: &[u8], words: &[u64], count: usize, out: &mut [u8]) -> Listing
-    requires { Listable packet.now (rows_in 0 count words.now) }
-    ensures { Lists (header ++ lines_of packet.now (rows_in 0 count words.now)) out.old result out.new }
-{
-    let fit = lines_fit(packet, words, count, out.len());
-    if !fit {
-        return too_short();
-    }
-    let from = put_word(out, 0, b"place\ttag\tkind\tvalue\n");
-    let size = put_lines(out, from, packet, words, count);
-    Listing::Lines(Listed { size })
 }
 
 fn put_refusal(out: &mut [u8], n: u64, place: u64, tag: u64) -> usize
     requires { Room out.old 0 (refused_line n place tag) }
     ensures { Wrote out.old 0 (refused_line n place tag) result out.new }
 {
-    let first = put_word(out, 0, b"refused\t");
-    let second = put_field(out, first, n);
-    let third = put_field(out, second, place);
-    let end = put_decimal(out, third, tag);
-    put_word(out, end, b"\n")
+    let mut line = Output { bytes: out, at: 0 };
+    line.word(b"refused\t");
+    line.field(n);
+    line.field(place);
+    line.decimal(tag);
+    line.word(b"\n");
+    line.at
 }
 
 // The one line of a refusal.
-fn list_refusal(refusal: Refusal, out: &mut [u8]) -> Listing
+fn list_refusal(refusal: Refusal, out: &mut [u8]) -> Result<usize, Refusal>
     ensures { Lists (refused_line (number refusal.reason) refusal.place refusal.tag) out.old result out.new }
 {
-    let reason = refusal.reason;
-    let n = refusal::number_of(reason);
+    let n = refusal::number_of(refusal.reason);
     let place = refusal.place as u64;
     let tag = refusal.tag;
     let numbers = spelling::decimal_size(n) + spelling::decimal_size(place);
     let size = numbers + spelling::decimal_size(tag) + 11;
     if out.len() < size {
-        return too_short();
+        return refused(Reason::OutputTooShort, 0, 0);
     }
-    put_refusal(out, n, place, tag);
-    Listing::Lines(Listed { size })
+    Ok(put_refusal(out, n, place, tag))
 }
 
-// Lists a packet for a reader of the whole catalogue. An output that is too short is left as it was, and so are its bytes after the
-// listing.
-pub fn list(packet: &[u8], out: &mut [u8]) -> Listing
+// Lists a packet for a reader of the whole catalogue: how many bytes of the output the listing takes. An output that is too short is left as it
+// was, and so are its bytes after the listing.
+pub fn list(packet: &[u8], out: &mut [u8]) -> Result<usize, Refusal>
     ensures { Lists (listing_of packet.now) out.old result out.new }
 {
-    let mut table = [0u64; 512];
-    match reader::read(packet, catalogue::all_tags(), &mut table) {
-        Reading::Refused(refusal) => list_refusal(refusal, out),
-        Reading::Rows(filled) => list_rows(packet, &table, filled.count, out),
+    let mut words = [0u64; 512];
+    match reader::read(packet, catalogue::all_tags(), &mut words) {
+        Err(refusal) => list_refusal(refusal, out),
+        Ok(filled) => {
+            let table = Table {
+                packet,
+                words: &words,
+                count: filled.count,
+            };
+            table.list(out)
+        }
     }
 }
 
 // The same of an accepted packet alone: for another its refusal is the answer, and the output is left as it was.
-pub fn list_accepted(packet: &[u8], out: &mut [u8]) -> Listing
+pub fn list_accepted(packet: &[u8], out: &mut [u8]) -> Result<usize, Refusal>
     ensures { ListsAccepted packet.now out.old result out.new }
 {
-    let mut table = [0u64; 512];
-    match reader::read(packet, catalogue::all_tags(), &mut table) {
-        Reading::Refused(refusal) => Listing::Refused(refusal),
-        Reading::Rows(filled) => list_rows(packet, &table, filled.count, out),
-    }
+    let mut words = [0u64; 512];
+    let filled = reader::read(packet, catalogue::all_tags(), &mut words)?;
+    let table = Table {
+        packet,
+        words: &words,
+        count: filled.count,
+    };
+    table.list(out)
 }

@@ -1,4 +1,3 @@
 pub mod Laws
 pub mod Widths
-pub mod Runs
 pub mod Outcomes

@@ -4,8 +4,6 @@ use mathlib.Core.Path.{sym, ◌∙◌, refl}
 use mathlib.Core.List.{List}
 use Prim.Native.Nat.{ℕ}
 use Rattle.base.specs.Determined.{Determined, Answered}
-use Rattle.number.proofs.wide.Kinds as wide-kinds
-use Rattle.number.proofs.wide.Reads as wide-reads
 use Rattle.number.proofs.value.Kinds as value-kinds
 use Rattle.number.proofs.value.Reads as value-reads
 use Rattle.number.proofs.put.Kinds as put-kinds
@@ -13,9 +11,6 @@ use Rattle.number.proofs.put.Reads as put_reads
 
 pub value_determined : Answered 1 value-kinds.ps value-kinds.r value-reads.Post
 value_determined κs a z z' e e' p q = p ∙ sym q
-
-pub wide_determined : Answered 0 wide-kinds.ps wide-kinds.r wide-reads.Post
-wide_determined κs a z z' e e' p q = p.0 ∙ sym q.0
 
 pub put_determined : Determined 1 put-kinds.ps put-kinds.r put_reads.Post (List ℕ) (λ κs e. e.0.now)
 put_determined κs a z z' e e' p q = (refl, p ∙ sym q)

@@ -1,50 +1,61 @@
--- The value of some bytes from that of their parts.
+-- The value of bytes one after another; and the lowest bytes of a number as std has them.
 -- Assumes nothing.
-use Prim.Native.Nat.{ℕ, zero, suc, ◌+◌, ◌*◌, ◌%◌, ◌^◌, ◌<◌, ◌≤◌}
+use Prim.Native.Nat.{ℕ, zero, suc, ◌+◌, ◌*◌, ◌/◌, ◌%◌, ◌^◌, ◌<◌, ◌≤◌}
 use native.Mathlib.Omega.{arith}
-use native.Mathlib.Nat.{zero-add, pow-suc}
-use mathlib.Core.Path.{◌≡◌, refl, ap, ap₂, sym, ◌∙◌}
-use mathlib.Core.List.{List, [], ◌∷◌}
+use native.Mathlib.Numerals.{add-one}
+use native.Mathlib.Nat.{mod-mod, mod-add-div'}
+use mathlib.Core.Path.{◌≡◌, refl, ap, sym, ◌∙◌}
+use mathlib.Core.List.{List, [], ◌∷◌, ◌++◌}
 use lib.ListN.{length, get_or, take, drop, length-drop}
-use lib.Seq.{take_all, drop-drop, length-take-le}
-use Rattle.base.proofs.Parts.{cons_at}
-use Rattle.number.specs.Stored.{value_from, value_of}
+use lib.Seq.{take-suc, get_or-drop}
+use Rattle.std.specs.Int.{byte_at, bytes_high_first}
+use Rattle.base.proofs.Parts.{cons_at, nil_at}
+use Rattle.number.specs.Stored.{value_from, value_of, bytes_of}
+use Rattle.number.proofs.Laws.{bytes_bytes_of, bytes_value, length_bytes_of, value_bytes}
 
--- what the bytes before say counts 256 times for each byte after
-raised : (h : ℕ) (l : List ℕ) → value_from h l ≡ h * 256 ^ length l + value_of l
+-- n bytes from a place on
+abbrev pub picked : ℕ → ℕ → List ℕ → List ℕ
+picked zero at s = []
+picked (suc n) at s = get_or s at 0 ∷ picked n (at + 1) s
+
+all_picked : (n at : ℕ) (s : List ℕ) → length s ≡ at + n → drop at s ≡ picked n at s
+all_picked zero at s e = nil_at s at (omega arith)
+all_picked (suc n) at s e = rw (cons_at s at (omega arith), all_picked n (at + 1) s (omega arith))
+
+pub value_picked : (n : ℕ) (s : List ℕ) → length s ≡ n → value_of s ≡ value_of (picked n 0 s)
+value_picked n s e = ap value_of (all_picked n 0 s (omega arith))
+
+-- a byte more
+value_end : (h b : ℕ) (l : List ℕ) → value_from h (l ++ (b ∷ [])) ≡ value_from h l * 256 + b
 unfolding value_from
-raised h [] = omega arith
-raised h (a ∷ l) =
-    let p : ℕ = 256 ^ length l in
-    let e : 256 ^ suc (length l) ≡ p * 256 = pow-suc 256 (length l) in
-    raised (h * 256 + a) l ∙ rw (e, raised (0 + a) l) (omega arith)
-
-none_taken : (n : ℕ) → take {A = ℕ} n [] ≡ []
-none_taken zero = refl
-none_taken (suc n) = refl
-
--- the first m bytes, and then n more
-went_on : (h m n : ℕ) (l : List ℕ) → value_from h (take (m + n) l) ≡ value_from (value_from h (take m l)) (take n (drop m l))
-unfolding value_from
-went_on h zero n l = rw zero-add
-went_on h (suc m) n [] = rw (none_taken (suc m + n), none_taken n)
-went_on h (suc m) n (a ∷ l) = let e : suc m + n ≡ suc (m + n) = omega arith in rw e (went_on (h * 256 + a) m n l)
-
-pub joined : (m n at : ℕ) (s : List ℕ) → at + m + n ≤ length s
-    → value_of (take m (drop at s)) * 256 ^ n + value_of (take n (drop (at + m) s)) ≡ value_of (take (m + n) (drop at s))
-joined m n at s h =
-    let k : length (take n (drop (at + m) s)) ≡ n = length-take-le n (drop (at + m) s) (rw length-drop (omega arith)) in
-    sym (went_on 0 m n (drop at s) ∙ rw (drop-drop m at s) (raised (value_of (take m (drop at s))) (take n (drop (at + m) s)) ∙ rw k))
+value_end h b [] = refl
+value_end h b (a ∷ l) = value_end (h * 256 + a) b l
 
 pub one_taken : (at : ℕ) (s : List ℕ) → at + 1 ≤ length s → value_of (take 1 (drop at s)) ≡ get_or s at 0
 unfolding value_from
 one_taken at s h = rw (cons_at s at (omega arith)) (omega arith)
 
--- a byte more
 pub one-more : (n at : ℕ) (s : List ℕ) → at + n + 1 ≤ length s → {v r : ℕ} → v ≡ value_of (take n (drop at s)) → r ≡ v * 256 + get_or s (at + n) 0
     → r ≡ value_of (take (n + 1) (drop at s))
-one-more n at s h e f = f ∙ (ap₂ (λ x y. x * 256 + y) e (sym (one_taken (at + n) s (omega arith))) ∙ joined n 1 at s h)
+one-more n at s h e f =
+    let k : n < length (drop at s) = rw length-drop (omega arith) in
+    rw (add-one, take-suc (drop at s) n 0 k, get_or-drop, value_end) (rw (← e) f)
 
--- all of them
-pub all_taken : (n : ℕ) (s : List ℕ) → length s ≡ n → {x : ℕ} → x < 2 ^ 64 → x ≡ value_of (take n s) → x ≡ value_of s % 2 ^ 64
-all_taken n s e h f = let g : value_of (take n s) ≡ value_of s = ap value_of (take_all n s (omega arith)) in omega arith
+-- the lowest bytes
+pub high_first : (n x : ℕ) → bytes_high_first n x ≡ bytes_of n x
+unfolding bytes_of
+high_first zero x = refl
+high_first (suc zero) x = let e : x % 256 ≡ x / 256 ^ 0 % 256 = omega arith in ap (λ a. a ∷ []) e
+high_first (suc (suc n)) x = ap (λ l. byte_at (suc n) x ∷ l) (high_first (suc n) x)
+
+-- the n lowest bytes of a number are those of what it leaves
+low_bytes : (n x : ℕ) → bytes_of n (x % 256 ^ n) ≡ bytes_of n x
+low_bytes n x =
+    let p : ℕ = 256 ^ n in
+    let y : ℕ = x % p in
+    let l : List ℕ = bytes_of n y in
+    let e : value_from (x / p) l ≡ x = value_bytes (x / p) n y ∙ rw mod-mod (omega (arith, mod-add-div' x p)) in
+    sym (rw (length_bytes_of n y, e) at (bytes_value (x / p) l (bytes_bytes_of n y)))
+
+pub low_first : (n x : ℕ) → bytes_high_first n (x % 256 ^ n) ≡ bytes_of n x
+low_first n x = high_first n (x % 256 ^ n) ∙ low_bytes n x

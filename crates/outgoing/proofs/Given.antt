@@ -27,9 +27,8 @@ use Rattle.packet.specs.Rows.{rows_in, pieces_of}
 use Rattle.packet.proofs.Closing.{RightEnds, ends_right, right-ends}
 use Rattle.outgoing.specs.Outgoing.{right_set, right_count, right_rows, agrees, right_words, right_size, last_piece, ends_of, by_row}
 use Rattle.outgoing.specs.Outgoing.{sendable, outgoing_with, outgoing}
-use Rattle.outgoing.specs.declared.Handed.{Handed}
-use Rattle.outgoing.specs.declared.Handed.TheVariants.{Nothing}
 use Rattle.outgoing.proofs.Stages.{all_good, good_all}
+use Rattle.std.specs.Prelude.{Option, None}
 
 -- the first piece is the time stamp
 pub record Begins (cs : List Piece) : Type 0 where
@@ -95,7 +94,7 @@ pub record Outgoes (K : TagSet) (count : ℕ) (words b : List ℕ) : Type 0 wher
   pub pieces : Sent (holds K) (pieces_of (holds K) b (rows_in 0 count words))
 
 -- whatever was handed agreed
-pub handed_then : (K : TagSet) (h : Handed) (count : ℕ) (words b : List ℕ) (cs : List Piece) → outgoing_with K h count words b ≡ given cs
+pub handed_then : (K : TagSet) (h : Option TagSet) (count : ℕ) (words b : List ℕ) (cs : List Piece) → outgoing_with K h count words b ≡ given cs
     → Outgoes K count words b × (pieces_of (holds K) b (rows_in 0 count words) ≡ cs) × (agrees h (present_in (rows_in 0 count words)) ≡ true)
 handed_then K h count words b cs e =
     let rs : List RowWords = rows_in 0 count words in
@@ -112,7 +111,7 @@ handed_then K h count words b cs e =
 pub outgoing_then : (K : TagSet) (count : ℕ) (words b : List ℕ) (cs : List Piece) → outgoing K count words b ≡ given cs
     → Outgoes K count words b × (pieces_of (holds K) b (rows_in 0 count words) ≡ cs)
 unfolding outgoing
-outgoing_then K count words b cs e = let o = handed_then K Nothing count words b cs e in (o.0, o.1)
+outgoing_then K count words b cs e = let o = handed_then K None count words b cs e in (o.0, o.1)
 
 -- the other way round
 ends_sent : (cs : List Piece) → Begins cs → Closes cs → RightEnds (ends_of cs)
@@ -148,7 +147,7 @@ after_22 (given u) (given v) (refused n p t) x = inl refl
 after_22 (given u) (given v) (given w) x = inr refl
 
 -- what was handed: where it agrees it changes nothing, and it can only bring 22 in
-module _ (K : TagSet) (h : Handed) (count : ℕ) (words b : List ℕ) where
+module _ (K : TagSet) (h : Option TagSet) (count : ℕ) (words b : List ℕ) where
   pub agreed_same : agrees h (present_in (rows_in 0 count words)) ≡ true → outgoing_with K h count words b ≡ outgoing K count words b
   unfolding outgoing
   agreed_same e = rw e

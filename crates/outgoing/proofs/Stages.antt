@@ -33,8 +33,8 @@ use Rattle.packet.proofs.Judging.{SeenBy, none_seen, one_seen}
 use Rattle.laws.proofs.Written.{length_item, length_encode}
 use Rattle.laws.proofs.Rows.{good_made}
 use Rattle.outgoing.specs.Outgoing.{right_rows, agrees, right_size, last_piece, ends_of, by_row, sendable, outgoing_with, packed_of}
-use Rattle.outgoing.specs.declared.Handed.{Handed}
 use Rattle.outgoing.specs.code.Staged.{rows_size, packed_by, row_fault, unless_faulty, rows_judged, ends_in, sized_in, told_in}
+use Rattle.std.specs.Prelude.{Option}
 
 -- no row is bad
 module _ (K : Knowing) (b : List ℕ) where
@@ -197,7 +197,7 @@ module _ (K : TagSet) (w : Words K) (b : List ℕ) where
         ∙ rw (ends_rows (holds K) b words count g, judged_all rs g))
 
     -- the whole, by what was found of the rows
-    module _ (h : Handed) (right : good K ≡ true) (few : count_good count (length words) ≡ true) where
+    module _ (h : Option TagSet) (right : good K ≡ true) (few : count_good count (length words) ≡ true) where
       pub rows_good : right_rows (holds K) (length b) 0 (rows_in 0 count words) ≡ given tt
           → map packed_of (outgoing_with K h count words b) ≡ told_in K h count words
       rows_good e =
@@ -205,12 +205,8 @@ module _ (K : TagSet) (w : Words K) (b : List ℕ) where
           (λ a. rw a (sized_all (all_good (holds K) b 0 (rows_in 0 count words) e)))
           (λ a. rw a))
 
-      pub rows_bad : (n p t : ℕ) → right_rows (holds K) (length b) 0 (rows_in 0 count words) ≡ refused n p t
-          → map packed_of (outgoing_with K h count words b) ≡ refused n p t
-      rows_bad n p t e = rw (right, few, e)
-
 -- 16 and 1
-module _ (K : TagSet) (h : Handed) (count : ℕ) (words b : List ℕ) where
+module _ (K : TagSet) (h : Option TagSet) (count : ℕ) (words b : List ℕ) where
   pub too_many : good K ≡ true → count_good count (length words) ≡ false → map packed_of (outgoing_with K h count words b) ≡ refused 16 0 0
   too_many e f = rw (e, f)
 

@@ -55,12 +55,16 @@ module _ (words : List ℕ) (count n : ℕ) where
     abbrev rest : List RowWords
     rest = rows_in (n + 1) (count - (n + 1)) words
 
-    pub size_more : rows_size (rows_in n (count - n) words) ≡ row_size (row_at words n) + rows_size (rows_in (n + 1) (count - (n + 1)) words)
+    size_more : rows_size (rows_in n (count - n) words) ≡ row_size (row_at words n) + rows_size (rows_in (n + 1) (count - (n + 1)) words)
     unfolding rows_size
     size_more = rw (rows-from words n count h)
 
     -- a row as the code has it
     module _ (r : RowWords) (same : r ≡ row_at words n) where
+      pub size_by : (bytes : ℕ) → bytes ≡ row_size r
+          → rows_size (rows_in n (count - n) words) ≡ bytes + rows_size (rows_in (n + 1) (count - (n + 1)) words)
+      size_by bytes e = rw (e, same) size_more
+
       module _ (K : Knowing) (room : ℕ) (s : Shape) (shape : s ≡ shape_for K r.tag) where
         pub good_more : row_good s room r ≡ true
             → right_rows K room n (rows_in n (count - n) words) ≡ right_rows K room (n + 1) (rows_in (n + 1) (count - (n + 1)) words)

@@ -1,3 +1,2 @@
 pub mod Outgoing
-pub mod Said
 pub mod code

@@ -2,7 +2,7 @@
 -- each a stage by itself, one after another; "place is the row number for 9, 10 and 12 to 14 (0 if there are no rows)".
 -- W-201: "The writer, when handed these words, refuses words that a scan of its rows would not give. Refusals: 22, words disagree,
 -- in the writer straight after 17, place and tag 0."
-use Rattle.std.specs.Prelude.{ℕ, suc, Bool, true, cond, List, [], ◌∷◌, length, ltb}
+use Rattle.std.specs.Prelude.{ℕ, suc, Bool, true, cond, List, [], ◌∷◌, length, ltb, Option, Some, None}
 use Rattle.refusal.specs.Answer.{Answer, given, refused, then}
 use Rattle.tagset.specs.Sets.{holds, same}
 use Rattle.tagset.specs.declared.TagSet.{TagSet}
@@ -18,8 +18,6 @@ use Rattle.packet.specs.Judge.{Knowing, Judged, fine, faulty, no_version, judge}
 use Rattle.packet.specs.Encode.{items_bytes, encode}
 use Rattle.packet.specs.Rows.{rows_in, pieces_of}
 use Rattle.outgoing.specs.declared.Packed.{Packed}
-use Rattle.outgoing.specs.declared.Handed.{Handed}
-use Rattle.outgoing.specs.declared.Handed.TheVariants.{Nothing, Words}
 
 -- 1 and 16
 abbrev pub right_set : TagSet → Answer (Unit {0})
@@ -35,12 +33,12 @@ right_rows K room k (r ∷ rs) =
     cond (row_good (shape_for K r.tag) room r) (right_rows K room (suc k) rs) (refused 17 k (tag_shown r.tag))
 
 -- whether the words handed, if any were, are those that are there
-abbrev pub agrees : Handed → TagSet → Bool
-agrees Nothing present = true
-agrees (Words s) present = same s present
+abbrev pub agrees : Option TagSet → TagSet → Bool
+agrees None present = true
+agrees (Some s) present = same s present
 
 -- 22
-abbrev pub right_words : Handed → List RowWords → Answer (Unit {0})
+abbrev pub right_words : Option TagSet → List RowWords → Answer (Unit {0})
 right_words h rs = cond (agrees h (present_in rs)) (given tt) (refused 22 0 0)
 
 -- 3
@@ -72,7 +70,7 @@ sendable K cs =
     then (by_row (judge K cs)) (λ _. given cs)))
 
 -- count rows in lent words, what was handed beside them, and the buffer that text and carried rows point into: the pieces to be written
-abbrev pub outgoing_with : TagSet → Handed → ℕ → List ℕ → List ℕ → Answer (List Piece)
+abbrev pub outgoing_with : TagSet → Option TagSet → ℕ → List ℕ → List ℕ → Answer (List Piece)
 outgoing_with K h count words b =
     then (right_set K) (λ _.
     then (right_count count words) (λ _.
@@ -82,7 +80,7 @@ outgoing_with K h count words b =
 
 -- and with nothing handed
 unfoldable pub outgoing : TagSet → ℕ → List ℕ → List ℕ → Answer (List Piece)
-outgoing K count words b = outgoing_with K Nothing count words b
+outgoing K count words b = outgoing_with K None count words b
 
 -- how many bytes the packet has, and how many of them its items
 abbrev pub packed_of : List Piece → Packed

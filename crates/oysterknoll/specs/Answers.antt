@@ -1,5 +1,5 @@
 -- What an answer says as a struct of C: document 01's refusal in front (number 0: none), and behind it what was asked for, all 0 on a refusal.
-use Rattle.std.specs.Prelude.{ℕ, cond, eqb, ℤ, pos}
+use Rattle.std.specs.Prelude.{ℕ, cond, eqb, ℤ, pos, Option, Some, None}
 use Rattle.std.specs.Int.Signed.{lt_z}
 use Rattle.refusal.specs.Answer.{Answer, given, refused}
 use Rattle.tagset.specs.Sets.{no_tags, holds}
@@ -9,8 +9,6 @@ use Rattle.catalogue.specs.Shapes.{is_marked}
 use Rattle.catalogue.specs.declared.Sign.{Sign}
 use Rattle.catalogue.specs.declared.Item.{Item}
 use Rattle.catalogue.specs.declared.Unit.{Unit}
-use Rattle.catalogue.specs.declared.Found.{Found}
-use Rattle.catalogue.specs.declared.Found.TheVariants.{Known, Absent}
 use Rattle.units.specs.Units.{unit_number}
 use Rattle.rows.specs.Taken.{part_place, part_length}
 use Rattle.rows.specs.declared.Filled.{Filled}
@@ -19,8 +17,6 @@ use Rattle.scale.specs.declared.House.{House}
 use Rattle.scale.specs.declared.Code.{Code}
 use Rattle.packet.specs.declared.Accepted.{Accepted}
 use Rattle.writer.specs.declared.Written.{Written}
-use Rattle.walker.specs.declared.Seen.{Seen}
-use Rattle.walker.specs.declared.Seen.TheVariants.{Item as here, NoMore}
 use Rattle.ground.specs.Ground.{HeightSeen, no_height, over_ellipsoid, over_sea_level, CornerSeen, no_corner, off_the_earth, on}
 use Rattle.oysterknoll.specs.declared.Refusal.{Refusal}
 use Rattle.oysterknoll.specs.declared.Row.{Row}
@@ -35,6 +31,7 @@ use Rattle.oysterknoll.specs.declared.CodeAnswer.{CodeAnswer}
 use Rattle.oysterknoll.specs.declared.HeightAnswer.{HeightAnswer}
 use Rattle.oysterknoll.specs.declared.CornerAnswer.{CornerAnswer}
 use Rattle.oysterknoll.specs.declared.ItemAnswer.{ItemAnswer}
+use Rattle.walker.specs.declared.Standing.{Standing}
 
 -- of header and archive
 abbrev pub version : ℕ
@@ -102,9 +99,9 @@ start_answer = saying (λ a. starting nothing a.from) (λ r. starting r 0)
 abbrev pub stepping : Row → ℕ → NextAnswer
 stepping row next = record { row = row; next = next }
 
-abbrev pub next_answer : ℕ → Seen → NextAnswer
-next_answer place (here s) = stepping (rowing s.tag s.kind s.code s.place s.length) s.next
-next_answer place NoMore = stepping (rowing 0 0 0 0 0) place
+abbrev pub next_answer : ℕ → Option Standing → NextAnswer
+next_answer place (Some s) = stepping (rowing s.tag s.kind s.code s.place s.length) s.next
+next_answer place None = stepping (rowing 0 0 0 0 0) place
 
 -- conversions
 abbrev pub valuing : Refusal → ℤ → ValueAnswer
@@ -164,6 +161,6 @@ listing i unit =
       marked = marked_as i.sign;
     }
 
-abbrev pub item_answer : Found → Unit → ItemAnswer
-item_answer (Known i) unit = listing i (unit_number unit)
-item_answer Absent unit = record { stored = 0; width = 0; low = pos 0; high = pos 0; unit = 0; marked = 0 }
+abbrev pub item_answer : Option Item → Unit → ItemAnswer
+item_answer (Some i) unit = listing i (unit_number unit)
+item_answer None unit = record { stored = 0; width = 0; low = pos 0; high = pos 0; unit = 0; marked = 0 }

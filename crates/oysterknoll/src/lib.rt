@@ -4,40 +4,35 @@
 
 ghost use Rattle.std.specs.Prelude.{◌≡◌, length};
 ghost use Rattle.scale.specs.Conversions.{to_house, to_code};
-ghost use Rattle.refusal.specs.Answer.{map};
+ghost use Rattle.refusal.specs.Answer.{answer_said, map};
 ghost use Rattle.rows.specs.Taken.{row_at, row_taken_at, part_place, part_length};
 ghost use Rattle.packet.specs.Verdict.{checked};
 ghost use Rattle.packet.specs.Rows.{read_answer, read_table};
-ghost use Rattle.outgoing.specs.declared.Handed.TheVariants.{Words};
 ghost use Rattle.writer.specs.Writes.{write_answer, write_output, write_answer_with, write_output_with};
 ghost use Rattle.relay.specs.Forwards.{forward_answer, forward_output};
-ghost use Rattle.ground.specs.Said.{height_said};
+ghost use Rattle.ground.specs.Said.{height_said, corner_said};
 ghost use Rattle.ground.specs.Ground.{sensor_height, frame_centre_height, corner_of};
 ghost use Rattle.listing.specs.Accepted.{list_answer, list_output};
 ghost use Rattle.refusal.specs.Numbers.{number};
-ghost use Rattle.tagset.specs.Sets.{knowing};
+ghost use Rattle.tagset.specs.Sets.{knowing, no_tags};
 ghost use Rattle.catalogue.specs.Items.{item_of, unit_of};
 ghost use Rattle.walker.specs.Steps.{seen_at};
-ghost use Rattle.oysterknoll.specs.Answers.{version, refusing, presenting, rowing, unfixed_as, stored_as, marked_as, listing, items_answer, rows_answer};
-ghost use Rattle.oysterknoll.specs.Answers.{bytes_answer, lines_answer, row_answer, start_answer, next_answer, value_answer, code_answer, height_answer};
-ghost use Rattle.oysterknoll.specs.Answers.{corner_answer, item_answer, has_answer};
+ghost use Rattle.oysterknoll.specs.Answers.{version, nothing, refusing, counting, presenting, rowing, unfixed_as, stored_as, marked_as, listing};
+ghost use Rattle.oysterknoll.specs.Answers.{bytes_answer, lines_answer, row_answer, start_answer, next_answer, value_answer, code_answer};
+ghost use Rattle.oysterknoll.specs.Answers.{height_seen, height_answer};
+ghost use Rattle.oysterknoll.specs.Answers.{corner_seen, corner_answer, item_answer, has_answer, items_answer, rows_answer};
 
-use catalogue::{Found, Item, Sign};
+use catalogue::{Item, Sign};
 use ground::{Corner, Height};
-use listing::Listing;
-use packet::Checked;
-use reader::Reading;
 use refusal::Refusal as Cause;
-use relay::Forwarding;
-use rows::{RowWords, Taken};
-use scale::{ToCode, ToHouse};
+use rows::RowWords;
 use tagset::TagSet;
-use walker::{Begin, Seen};
-use writer::Writing;
+use walker::Standing;
+use writer::Written;
 
 const VERSION: u64 = 4;
 
-// Kinds of a height and of a corner, and how an item is stored.
+// Kinds of a height and of a corner, and how an item is stored: numbers, as C reads them.
 const MISSING: u64 = 0;
 
 const OVER_ELLIPSOID: u64 = 1;
@@ -197,23 +192,50 @@ pub extern "C" fn oyk_version() -> u64
     VERSION
 }
 
-fn refused(cause: Cause) -> Refusal
-    ensures { result ≡ refusing (number cause.reason) cause.place cause.tag }
-{
-    let reason = cause.reason;
-    Refusal {
-        number: refusal::number_of(reason),
-        place: cause.place,
-        tag: cause.tag,
+impl From<Cause> for Refusal {
+    ghost from_gives = { λ cause r. r ≡ refusing (number cause.reason) cause.place cause.tag };
+
+    fn from(cause: Cause) -> Refusal {
+        Refusal {
+            number: refusal::number_of(cause.reason),
+            place: cause.place,
+            tag: cause.tag,
+        }
     }
 }
 
-fn words_of(set: TagSet) -> Present
-    ensures { result ≡ presenting set }
+impl From<TagSet> for Present {
+    ghost from_gives = { λ set p. p ≡ presenting set };
+
+    fn from(set: TagSet) -> Present {
+        Present {
+            low: set.low,
+            high: set.high,
+        }
+    }
+}
+
+impl From<Cause> for CountAnswer {
+    ghost from_gives = { λ cause a. a ≡ counting (refusing (number cause.reason) cause.place cause.tag) 0 no_tags no_tags };
+
+    fn from(cause: Cause) -> CountAnswer {
+        CountAnswer {
+            refusal: cause.into(),
+            count: 0,
+            present: NO_TAGS,
+            withdrawn: NO_TAGS,
+        }
+    }
+}
+
+fn counted(count: usize, present: TagSet, withdrawn: TagSet) -> CountAnswer
+    ensures { result ≡ counting nothing count present withdrawn }
 {
-    Present {
-        low: set.low,
-        high: set.high,
+    CountAnswer {
+        refusal: NONE,
+        count,
+        present: present.into(),
+        withdrawn: withdrawn.into(),
     }
 }
 
@@ -223,18 +245,8 @@ pub extern "C" fn oyk_check(packet: &[u8], low: u64, high: u64) -> CountAnswer
     ensures { result ≡ items_answer (checked (knowing low high) packet.now) }
 {
     match packet::check(packet, TagSet { low, high }) {
-        Checked::Refused(cause) => CountAnswer {
-            refusal: refused(cause),
-            count: 0,
-            present: NO_TAGS,
-            withdrawn: NO_TAGS,
-        },
-        Checked::Accepted(accepted) => CountAnswer {
-            refusal: NONE,
-            count: accepted.count,
-            present: words_of(accepted.present),
-            withdrawn: words_of(accepted.withdrawn),
-        },
+        Err(cause) => cause.into(),
+        Ok(accepted) => counted(accepted.count, accepted.present, accepted.withdrawn),
     }
 }
 
@@ -245,18 +257,8 @@ pub extern "C" fn oyk_read(packet: &[u8], low: u64, high: u64, table: &mut [u64]
     ensures rows_left { table.new ≡ read_table (knowing low high) packet.now table.old }
 {
     match reader::read(packet, TagSet { low, high }, table) {
-        Reading::Refused(cause) => CountAnswer {
-            refusal: refused(cause),
-            count: 0,
-            present: NO_TAGS,
-            withdrawn: NO_TAGS,
-        },
-        Reading::Rows(filled) => CountAnswer {
-            refusal: NONE,
-            count: filled.count,
-            present: words_of(filled.present),
-            withdrawn: words_of(filled.withdrawn),
-        },
+        Err(cause) => cause.into(),
+        Ok(filled) => counted(filled.count, filled.present, filled.withdrawn),
     }
 }
 
@@ -275,15 +277,17 @@ pub extern "C" fn oyk_has(present_low: u64, present_high: u64, tag: u64) -> u64
     0
 }
 
-fn row_told(row: RowWords) -> Row
-    ensures { result ≡ rowing row.tag row.kind row.code (part_place row.part) (part_length row.part) }
-{
-    Row {
-        tag: row.tag,
-        kind: row.kind,
-        code: row.code,
-        place: (row.part / 65536) as usize,
-        length: (row.part % 65536) as usize,
+impl From<RowWords> for Row {
+    ghost from_gives = { λ row r. r ≡ rowing row.tag row.kind row.code (part_place row.part) (part_length row.part) };
+
+    fn from(row: RowWords) -> Row {
+        Row {
+            tag: row.tag,
+            kind: row.kind,
+            code: row.code,
+            place: (row.part / 65536) as usize,
+            length: (row.part % 65536) as usize,
+        }
     }
 }
 
@@ -301,13 +305,13 @@ pub extern "C" fn oyk_take_row(
         (row_taken_at (knowing low high) (length buffer.now) count n words.now)) }
 {
     match rows::take_row(words, count, n, TagSet { low, high }, buffer) {
-        Taken::Refused(cause) => RowAnswer {
-            refusal: refused(cause),
+        Err(cause) => RowAnswer {
+            refusal: cause.into(),
             row: NO_ROW,
         },
-        Taken::Is(_) => RowAnswer {
+        Ok(_) => RowAnswer {
             refusal: NONE,
-            row: row_told(rows::row_at(words, n)),
+            row: rows::row_at(words, n).into(),
         },
     }
 }
@@ -317,17 +321,30 @@ pub extern "C" fn oyk_take_row(
 pub extern "C" fn oyk_start(packet: &[u8], low: u64, high: u64) -> StartAnswer
     ensures { result ≡ start_answer (checked (knowing low high) packet.now) }
 {
-    let begun = walker::opened(packet, low, high);
-    let answer = begun.answer;
-    match answer {
-        Begin::Refused(cause) => StartAnswer {
-            refusal: refused(cause),
+    let begun = walker::opened(packet, TagSet { low, high });
+    match begun.answer {
+        Err(cause) => StartAnswer {
+            refusal: cause.into(),
             place: 0,
         },
-        Begin::Good => StartAnswer {
+        Ok(()) => StartAnswer {
             refusal: NONE,
             place: begun.at,
         },
+    }
+}
+
+impl From<Standing> for Row {
+    ghost from_gives = { λ item r. r ≡ rowing item.tag item.kind item.code item.place item.length };
+
+    fn from(item: Standing) -> Row {
+        Row {
+            tag: item.tag,
+            kind: item.kind,
+            code: item.code,
+            place: item.place,
+            length: item.length,
+        }
     }
 }
 
@@ -336,24 +353,40 @@ pub extern "C" fn oyk_start(packet: &[u8], low: u64, high: u64) -> StartAnswer
 pub extern "C" fn oyk_next(packet: &[u8], low: u64, high: u64, place: usize) -> NextAnswer
     ensures { result ≡ next_answer place (seen_at (knowing low high) packet.now place) }
 {
-    match walker::seen_at(packet, place, low, high) {
-        Seen::Item(item) => {
-            let row = Row {
-                tag: item.tag,
-                kind: item.kind,
-                code: item.code,
-                place: item.place,
-                length: item.length,
-            };
-            NextAnswer {
-                row,
-                next: item.next,
-            }
-        }
-        Seen::NoMore => NextAnswer {
+    match walker::seen_at(packet, place, TagSet { low, high }) {
+        Some(item) => NextAnswer {
+            row: item.into(),
+            next: item.next,
+        },
+        None => NextAnswer {
             row: NO_ROW,
             next: place,
         },
+    }
+}
+
+impl From<Result<usize, Cause>> for SizeAnswer {
+    ghost from_gives = { λ size a. a ≡ lines_answer (answer_said size) };
+
+    fn from(size: Result<usize, Cause>) -> SizeAnswer {
+        match size {
+            Err(cause) => SizeAnswer {
+                refusal: cause.into(),
+                size: 0,
+            },
+            Ok(size) => SizeAnswer {
+                refusal: NONE,
+                size,
+            },
+        }
+    }
+}
+
+impl From<Result<Written, Cause>> for SizeAnswer {
+    ghost from_gives = { λ written a. a ≡ bytes_answer (answer_said written) };
+
+    fn from(written: Result<Written, Cause>) -> SizeAnswer {
+        written.map(|written| written.size).into()
     }
 }
 
@@ -370,16 +403,7 @@ pub extern "C" fn oyk_write(
     ensures answer { result ≡ bytes_answer (write_answer (knowing low high) count words.now buffer.now out.old) }
     ensures output { out.new ≡ write_output (knowing low high) count words.now buffer.now out.old }
 {
-    match writer::write(TagSet { low, high }, count, words, buffer, out) {
-        Writing::Refused(cause) => SizeAnswer {
-            refusal: refused(cause),
-            size: 0,
-        },
-        Writing::Packet(written) => SizeAnswer {
-            refusal: NONE,
-            size: written.size,
-        },
-    }
+    writer::write(TagSet { low, high }, count, words, buffer, out).into()
 }
 
 // The same, handed the words that say which items are there: words that a scan of the rows would not give are refused.
@@ -394,25 +418,16 @@ pub extern "C" fn oyk_write_with(
     present_high: u64,
     out: &mut [u8],
 ) -> SizeAnswer
-    ensures answer { result ≡ bytes_answer (write_answer_with (knowing low high) (Words (knowing present_low present_high)) count words.now
+    ensures answer { result ≡ bytes_answer (write_answer_with (knowing low high) (Some (knowing present_low present_high)) count words.now
         buffer.now out.old) }
-    ensures output { out.new ≡ write_output_with (knowing low high) (Words (knowing present_low present_high)) count words.now
+    ensures output { out.new ≡ write_output_with (knowing low high) (Some (knowing present_low present_high)) count words.now
         buffer.now out.old }
 {
     let present = TagSet {
         low: present_low,
         high: present_high,
     };
-    match writer::write_with(TagSet { low, high }, present, count, words, buffer, out) {
-        Writing::Refused(cause) => SizeAnswer {
-            refusal: refused(cause),
-            size: 0,
-        },
-        Writing::Packet(written) => SizeAnswer {
-            refusal: NONE,
-            size: written.size,
-        },
-    }
+    writer::write_with(TagSet { low, high }, present, count, words, buffer, out).into()
 }
 
 // Sends a packet on: how many bytes it takes.
@@ -421,16 +436,7 @@ pub extern "C" fn oyk_forward(packet: &[u8], low: u64, high: u64, out: &mut [u8]
     ensures answer { result ≡ bytes_answer (forward_answer (knowing low high) packet.now out.old) }
     ensures output { out.new ≡ forward_output (knowing low high) packet.now out.old }
 {
-    match relay::forward(TagSet { low, high }, packet, out) {
-        Forwarding::Refused(cause) => SizeAnswer {
-            refusal: refused(cause),
-            size: 0,
-        },
-        Forwarding::Packet(sent) => SizeAnswer {
-            refusal: NONE,
-            size: sent.size,
-        },
-    }
+    relay::forward(TagSet { low, high }, packet, out).into()
 }
 
 // What a code of so many bytes stands for, in house units; only at an extended height does the length matter.
@@ -439,11 +445,11 @@ pub extern "C" fn oyk_to_house(tag: u64, length: usize, code: u64) -> ValueAnswe
     ensures { result ≡ value_answer (to_house tag length code) }
 {
     match scale::to_house(tag, length, code) {
-        ToHouse::Refused(cause) => ValueAnswer {
-            refusal: refused(cause),
+        Err(cause) => ValueAnswer {
+            refusal: cause.into(),
             value: 0,
         },
-        ToHouse::Is(house) => ValueAnswer {
+        Ok(house) => ValueAnswer {
             refusal: NONE,
             value: house.value,
         },
@@ -456,41 +462,53 @@ pub extern "C" fn oyk_to_code(tag: u64, length: usize, value: i64) -> CodeAnswer
     ensures { result ≡ code_answer (to_code tag length value) }
 {
     match scale::to_code(tag, length, value) {
-        ToCode::Refused(cause) => CodeAnswer {
-            refusal: refused(cause),
+        Err(cause) => CodeAnswer {
+            refusal: cause.into(),
             code: 0,
         },
-        ToCode::Is(code) => CodeAnswer {
+        Ok(code) => CodeAnswer {
             refusal: NONE,
             code: code.code,
         },
     }
 }
 
-fn height_found(height: Height) -> HeightAnswer
-    ensures { result ≡ height_answer (height_said height) }
-{
-    match height {
-        Height::Refused(cause) => HeightAnswer {
-            refusal: refused(cause),
-            kind: MISSING,
-            height: 0,
-        },
-        Height::Missing => HeightAnswer {
-            refusal: NONE,
-            kind: MISSING,
-            height: 0,
-        },
-        Height::OverEllipsoid(over) => HeightAnswer {
-            refusal: NONE,
-            kind: OVER_ELLIPSOID,
-            height: over.0,
-        },
-        Height::OverSeaLevel(over) => HeightAnswer {
-            refusal: NONE,
-            kind: OVER_SEA_LEVEL,
-            height: over.0,
-        },
+impl From<Height> for HeightAnswer {
+    ghost from_gives = { λ height a. a ≡ height_seen (height_said height) };
+
+    fn from(height: Height) -> HeightAnswer {
+        match height {
+            Height::Missing => HeightAnswer {
+                refusal: NONE,
+                kind: MISSING,
+                height: 0,
+            },
+            Height::OverEllipsoid(over) => HeightAnswer {
+                refusal: NONE,
+                kind: OVER_ELLIPSOID,
+                height: over.0,
+            },
+            Height::OverSeaLevel(over) => HeightAnswer {
+                refusal: NONE,
+                kind: OVER_SEA_LEVEL,
+                height: over.0,
+            },
+        }
+    }
+}
+
+impl From<Result<Height, Cause>> for HeightAnswer {
+    ghost from_gives = { λ found a. a ≡ height_answer (map height_said (answer_said found)) };
+
+    fn from(found: Result<Height, Cause>) -> HeightAnswer {
+        match found {
+            Err(cause) => HeightAnswer {
+                refusal: cause.into(),
+                kind: MISSING,
+                height: 0,
+            },
+            Ok(height) => height.into(),
+        }
     }
 }
 
@@ -499,7 +517,7 @@ fn height_found(height: Height) -> HeightAnswer
 pub extern "C" fn oyk_sensor_height(packet: &[u8], low: u64, high: u64) -> HeightAnswer
     ensures { result ≡ height_answer (sensor_height (knowing low high) packet.now) }
 {
-    height_found(ground::sensor_height(packet, TagSet { low, high }))
+    ground::sensor_height(packet, TagSet { low, high }).into()
 }
 
 // The frame centre's height, with its kind.
@@ -507,7 +525,34 @@ pub extern "C" fn oyk_sensor_height(packet: &[u8], low: u64, high: u64) -> Heigh
 pub extern "C" fn oyk_frame_centre_height(packet: &[u8], low: u64, high: u64) -> HeightAnswer
     ensures { result ≡ height_answer (frame_centre_height (knowing low high) packet.now) }
 {
-    height_found(ground::frame_centre_height(packet, TagSet { low, high }))
+    ground::frame_centre_height(packet, TagSet { low, high }).into()
+}
+
+impl From<Corner> for CornerAnswer {
+    ghost from_gives = { λ corner a. a ≡ corner_seen (corner_said corner) };
+
+    fn from(corner: Corner) -> CornerAnswer {
+        match corner {
+            Corner::Missing => CornerAnswer {
+                refusal: NONE,
+                kind: MISSING,
+                latitude: 0,
+                longitude: 0,
+            },
+            Corner::At(point) => CornerAnswer {
+                refusal: NONE,
+                kind: POINT,
+                latitude: point.latitude,
+                longitude: point.longitude,
+            },
+            Corner::OffTheEarth => CornerAnswer {
+                refusal: NONE,
+                kind: OFF_THE_EARTH,
+                latitude: 0,
+                longitude: 0,
+            },
+        }
+    }
 }
 
 // Corner k of the picture on the ground: latitude and longitude.
@@ -516,30 +561,13 @@ pub extern "C" fn oyk_corner(packet: &[u8], low: u64, high: u64, k: u64) -> Corn
     ensures { result ≡ corner_answer (corner_of k (knowing low high) packet.now) }
 {
     match ground::corner_at(packet, TagSet { low, high }, k) {
-        Corner::Refused(cause) => CornerAnswer {
-            refusal: refused(cause),
+        Err(cause) => CornerAnswer {
+            refusal: cause.into(),
             kind: MISSING,
             latitude: 0,
             longitude: 0,
         },
-        Corner::Missing => CornerAnswer {
-            refusal: NONE,
-            kind: MISSING,
-            latitude: 0,
-            longitude: 0,
-        },
-        Corner::At(point) => CornerAnswer {
-            refusal: NONE,
-            kind: POINT,
-            latitude: point.latitude,
-            longitude: point.longitude,
-        },
-        Corner::OffTheEarth => CornerAnswer {
-            refusal: NONE,
-            kind: OFF_THE_EARTH,
-            latitude: 0,
-            longitude: 0,
-        },
+        Ok(corner) => corner.into(),
     }
 }
 
@@ -559,11 +587,9 @@ fn stored_as(item: Item) -> u64
     if item.width == 0 {
         return unfixed_as(item);
     }
-    let sign = item.sign;
-    match sign {
+    match item.sign {
         Sign::Unsigned => STORED_UNSIGNED,
-        Sign::Signed => STORED_SIGNED,
-        Sign::Marked => STORED_SIGNED,
+        Sign::Signed | Sign::Marked => STORED_SIGNED,
     }
 }
 
@@ -571,23 +597,22 @@ fn marked_as(sign: Sign) -> u64
     ensures { result ≡ marked_as sign }
 {
     match sign {
-        Sign::Unsigned => 0,
-        Sign::Signed => 0,
+        Sign::Unsigned | Sign::Signed => 0,
         Sign::Marked => 1,
     }
 }
 
+// No `From`, since it takes two things.
 fn listed(item: Item, unit: u64) -> ItemAnswer
     ensures { result ≡ listing item unit }
 {
-    let sign = item.sign;
     ItemAnswer {
         stored: stored_as(item),
         width: item.width,
         low: item.low,
         high: item.high,
         unit,
-        marked: marked_as(sign),
+        marked: marked_as(item.sign),
     }
 }
 
@@ -597,8 +622,8 @@ pub extern "C" fn oyk_item(tag: u64) -> ItemAnswer
     ensures { result ≡ item_answer (item_of tag) (unit_of tag) }
 {
     match items::item_of(tag) {
-        Found::Known(item) => listed(item, units::number_of(units::unit_of(tag))),
-        Found::Absent => ItemAnswer {
+        Some(item) => listed(item, units::number_of(units::unit_of(tag))),
+        None => ItemAnswer {
             stored: NOT_LISTED,
             width: 0,
             low: 0,
@@ -615,14 +640,5 @@ pub extern "C" fn oyk_list(packet: &[u8], out: &mut [u8]) -> SizeAnswer
     ensures answer { result ≡ lines_answer (list_answer packet.now out.old) }
     ensures output { out.new ≡ list_output packet.now out.old }
 {
-    match listing::list_accepted(packet, out) {
-        Listing::Refused(cause) => SizeAnswer {
-            refusal: refused(cause),
-            size: 0,
-        },
-        Listing::Lines(listed) => SizeAnswer {
-            refusal: NONE,
-            size: listed.size,
-        },
-    }
+    listing::list_accepted(packet, out).into()
 }

@@ -3,7 +3,7 @@
 use Prim.Native.Nat.{ℕ, zero, suc, ◌+◌, ◌-◌, ◌≤◌}
 use native.Mathlib.Omega.{arith}
 use native.Mathlib.Nat.{zero-add}
-use mathlib.Core.Path.{◌≡◌, refl, ap, sym, ◌∙◌}
+use mathlib.Core.Path.{◌≡◌, refl, ap, ap₂, sym, ◌∙◌}
 use mathlib.Core.Bool.{Bool, true}
 use mathlib.Core.List.{List, [], ◌∷◌}
 use lib.Dec.{eqb}
@@ -30,7 +30,7 @@ use Rattle.packet.specs.Judge.{judge}
 use Rattle.packet.specs.Ends.{right_ends}
 use Rattle.packet.specs.Structure.{frame, last_of, ends_of, right_sum, last_sum, closed, structure}
 use Rattle.packet.specs.Encode.{longer_of}
-use Rattle.packet.specs.Verdict.{one_byte, start_of, judged, body_of, verdict, received, found_at, no_places, places_from, checked}
+use Rattle.packet.specs.Verdict.{one_byte, start_of, judged, body_of, verdict, received, found_at, no_places, places_from, checked, located_of, located}
 use Rattle.packet.specs.Said.{header_at}
 use Rattle.packet.specs.code.Headers.{header_of}
 use Rattle.packet.specs.code.Passing.{Kept, kept, fresh_at, kept_from, Passes}
@@ -283,10 +283,18 @@ received_begun K p = by_bool (good K) (λ e. rw e (go (frame p))) (λ e. rw e)
     go (given from) = then_then (walk 128 from (drop from p)) (closed p) (judged (holds K))
     go (refused n a t) = refl
 
+-- what is made of the items that are received, by where they begin
+received_from : {B : Type 0} (f : List Item → B) (K : TagSet) (p : List ℕ) (a : Answer ℕ) → begun_by K p ≡ a
+    → map f (received K p) ≡ then a (λ from. map f (items_from K p from))
+received_from f K p a e = ap (map f) (received_begun K p ∙ ap (λ x. then x (items_from K p)) e) ∙ map_then f a (items_from K p)
+
 pub checked_begun : (K : TagSet) (p : List ℕ) (a : Answer ℕ) → begun_by K p ≡ a → checked K p ≡ then a (λ from. map (body_of (holds K)) (items_from K p from))
 unfolding checked
-checked_begun K p a e = ap (map (body_of (holds K))) (received_begun K p ∙ ap (λ x. then x (items_from K p)) e)
-    ∙ map_then (body_of (holds K)) a (items_from K p)
+checked_begun K = received_from (body_of (holds K)) K
+
+pub located_begun : (K : TagSet) (p : List ℕ) (a : Answer ℕ) → begun_by K p ≡ a → located K p ≡ then a (λ from. map (located_of (holds K)) (items_from K p from))
+unfolding located
+located_begun K = received_from (located_of (holds K)) K
 
 -- a packet of a right frame
 pub begins : (K : TagSet) (p : List ℕ) (from : ℕ) → begun_by K p ≡ given from → Begins K p from no_places
@@ -296,14 +304,16 @@ begins K p from e =
     record { known = a.0; some = omega (arith, f.some); short = f.short; inside = f.inside; none = refl }
 
 -- where the values are found, if a packet is accepted
-pub located_refused : (K : TagSet) (p : List ℕ) (n a t : ℕ) → checked K p ≡ refused n a t → or_else no_places (places_from no_places) (received K p) ≡ no_places
-unfolding checked
-located_refused K p n a t e = ap (or_else no_places (places_from no_places)) (map_refused (body_of (holds K)) (received K p) n a t e)
+module _ (K : TagSet) (p : List ℕ) (from : ℕ) (e : begun_by K p ≡ given from) where
+  pub located_refused : (n a t : ℕ) → map (body_of (holds K)) (items_from K p from) ≡ refused n a t → located K p ≡ refused n a t
+  located_refused n a t f =
+      located_begun K p (given from) e ∙ ap (map (located_of (holds K))) (map_refused (body_of (holds K)) (items_from K p from) n a t f)
 
-pub located_given : (K : TagSet) (p : List ℕ) (from : ℕ) (a : Accepted) → begun_by K p ≡ given from → checked K p ≡ given a
-    → or_else no_places (places_from no_places) (received K p) ≡ places_from no_places (items_at p from)
-unfolding checked
-located_given K p from a e f =
-    let r = map_given (body_of (holds K)) (received K p) f in
-    let b = then_given (walk 128 from (drop from p)) _ (sym (received_begun K p ∙ ap (λ x. then x (items_from K p)) e) ∙ r.1) in
-    rw (r.1, b.first) (ap (places_from no_places) (accepts K p b.between r.0 b.second).same)
+  pub located_given : (a : Accepted) (l : List ℕ) → map (body_of (holds K)) (items_from K p from) ≡ given a → l ≡ places_from no_places (items_at p from)
+      → located K p ≡ given (record { accepted = a; places = l })
+  located_given a l f g =
+      let r = map_given (body_of (holds K)) (items_from K p from) f in
+      let b = then_given (walk 128 from (drop from p)) _ r.1 in
+      let items : items_at p from ≡ r.0 = ap (or_else [] (λ is. is)) b.first ∙ sym (accepts K p b.between r.0 b.second).same in
+      located_begun K p (given from) e
+      ∙ (ap (map (located_of (holds K))) r.1 ∙ ap₂ (λ x y. given (record { accepted = x; places = y })) r.2 (sym (g ∙ ap (places_from no_places) items)))

@@ -10,7 +10,6 @@ use lib.ListN.{length, get_or, take, drop, length-take, length-drop}
 use lib.Bits.{bit_and, bit_or, and_mask, and_le_l, and_le_r, or_add_and}
 use borrow.Author.Tests.{leb-false, eqb-false, lt-ltb, le-ltb, lt-leb, le-leb, eq-eqb, ne_eqb}
 use Rattle.base.proofs.Cases.{by_bool, by_lt, by_eq, clash}
-use Rattle.refusal.specs.Answer.{given, refused}
 use Rattle.number.specs.Stored.{Bytes, value_of}
 use Rattle.number.proofs.Laws.{bytes_take, bytes_drop, value_small}
 use Rattle.catalogue.specs.Items.{groups, member, item_in, item_of}
@@ -24,13 +23,12 @@ use Rattle.ber.specs.Written.{tag_bytes, length_bytes}
 use Rattle.ber.proofs.Laws.{sized as length-sized}
 use Rattle.tagset.specs.Sets.{holds, knowing}
 use Rattle.tagset.proofs.Laws.{Words, holds_low, holds_high}
-use Rattle.packet.specs.Said.{header_at}
 use Rattle.packet.specs.Verdict.{one_byte}
 use Rattle.packet.specs.code.Headers.{short_forms}
-use Rattle.packet.specs.code.Passing.{is_fit, FitAs, glance_of, asks_close, mask_at, Glances}
+use Rattle.packet.specs.code.Passing.{is_fit, FitAs, glance_of, asks_close, mask_at, PlainSeen}
 use Rattle.packet.specs.declared.Header.{Header}
 use Rattle.packet.specs.declared.Glance.{Glance}
-use Rattle.packet.proofs.Steps.{short_past_the_end, short_item}
+use Rattle.packet.proofs.Steps.{short_item}
 use Rattle.packet.proofs.Faults.{wraps_not}
 
 -- a tag's bit in two words side by side
@@ -87,23 +85,6 @@ pub plain_tag : (t : ℕ) → t < 128 → get_or mask_column t 0 < 128 → (t �
 plain_tag t h e =
     let f = either (eqb t 0) (is_extended t) (length_mask (shape_of t)) (rw (mask_in_column t h) at e) in
     (λ q. clash (sym (eq-eqb t 0 q) ∙ f.0), f.1)
-
-module _ (p : List ℕ) (at : ℕ) where
-  -- no item
-  pub glance_none : (n b t : ℕ) → header_at p at ≡ refused n b t → (g : Glance) → g.empty ≡ false → length p < g.past → Glances p at g
-  glance_none n b t e g full h =
-      record {
-        item = λ k. absurd (omega arith);
-        none = λ _. (record { number = n; place = b; tag = t; refuses = e }, full);
-      }
-
-  -- an item
-  pub glance_item : (h : Header) → header_at p at ≡ given h → h.place + h.size ≤ length p → (f : Bool) → FitAs p h f → Glances p at (glance_of h f)
-  glance_item h e inside f fits =
-      record {
-        item = λ _. record { header = h; found = e; same = refl; fits = fits };
-        none = λ k. absurd (omega arith);
-      }
 
 -- no number and no text has 128 bytes or more
 too_long : (t n : ℕ) (s : Shape) → shape_of t ≡ s → 128 ≤ n → shape_allows s n ≡ false
@@ -192,15 +173,19 @@ module _ (p : List ℕ) (at : ℕ) where
 
     -- the mask is the tag's
     pub glance_short : (f : Bool) → f ≡ within (get_or mask_column (get_or p at 0) 0) (get_or p (at + 1) 0) → is_extended (get_or p at 0) ≡ false
-        → Glances p at (short_glance (get_or p at 0) (get_or p (at + 1) 0) f)
-    glance_short f e x =
+        → at + 1 + 1 + get_or p (at + 1) 0 ≤ length p → PlainSeen p at (short_glance (get_or p at 0) (get_or p (at + 1) 0) f)
+    glance_short f e x h =
         let t : ℕ = get_or p at 0 in
         let n : ℕ = get_or p (at + 1) 0 in
         let below : t < 128 = below_tag t n plain in
         let few : n < 128 = below_size t n plain in
-        by_lt (length p) (at + 1 + 1 + n)
-        (λ h. glance_none p at 8 at t (short_past_the_end p at _ _ refl refl (omega arith) (omega arith) short h) _ refl h)
-        (λ h. rw (one_byte_glance t n f (omega arith) below (some_size t n plain) few x)
-        (glance_item p at _ (short_item p at _ _ refl refl (omega arith) (omega arith) short h) h f
-        (plain_fits p (record { tag = t; start = at; place = at + 1 + 1; size = n }) h f
-        (rw (lt-ltb t 128 below) e) few (rw (lt-ltb t 128 below) x))))
+        let header : Header = record { tag = t; start = at; place = at + 1 + 1; size = n } in
+        record {
+          seen = record {
+            header = header;
+            found = short_item p at _ _ refl refl (omega arith) (omega arith) short h;
+            same = one_byte_glance t n f (omega arith) below (some_size t n plain) few x;
+            fits = plain_fits p header h f (rw (lt-ltb t 128 below) e) few (rw (lt-ltb t 128 below) x);
+          };
+          some = refl;
+        }

@@ -7,12 +7,10 @@ use mathlib.Core.Path.{◌≡◌, ap, ◌∙◌}
 use mathlib.Core.Bool.{Bool, true, false}
 use mathlib.Core.List.{List, [], ◌∷◌}
 use mir.Val.{bool_byte}
-use lib.ListN.{length, get_or, set, length-set}
-use lib.Bits.{bit_and, bit_or, and_mask, and_zero_l, or_zero_r, or_lt}
-use lib.Pow.{pow-lt}
-use lib.Seq.{get_or-set_same, get_or-set_other}
+use lib.ListN.{length, get_or, set}
+use lib.Bits.{bit_and, bit_or, and_mask, and_zero_l, or_zero_r}
 use borrow.Author.Tests.{eqb-true, eqb-false, lt-ltb, le-ltb}
-use Rattle.base.proofs.Cases.{by_bool, by_lt, by_eq}
+use Rattle.base.proofs.Cases.{by_bool, by_lt}
 use Rattle.tagset.specs.Sets.{holds, with_tag}
 use Rattle.tagset.proofs.Laws.{Words}
 use Rattle.tagset.proofs.Words.{one_shl, bit_small}
@@ -61,27 +59,17 @@ one_word (a ∷ b ∷ m) t e h =
     (λ k. let w : t / 64 ≡ 0 = omega arith in let s : t % 64 ≡ t = omega arith in rw (w, s, lt-ltb t 64 k))
     (λ k. let w : t / 64 ≡ 1 = omega arith in let s : t % 64 ≡ t - 64 = omega arith in rw (w, s, le-ltb t 64 k, lt-ltb t 128 h))
 
--- the words are words, and as a set have the tag where it is known and its item fit
-set_two : (m : List ℕ) (t v : ℕ) → TwoWords m → v < 2 ^ 64 → TwoWords (word_set m t v)
-set_two m t v two h = record { both = length-set m (t / 64) _ ∙ two.both; low = each 0 (omega arith) two.low; high = each 1 (omega arith) two.high }
-  where
-    each : (i : ℕ) → i < 2 → get_or m i 0 < 2 ^ 64 → get_or (word_set m t v) i 0 < 2 ^ 64
-    each i few e =
-        by_eq i (t / 64)
-        (λ q. rw (← q, get_or-set_same m i (bit_or (get_or m i 0) v) 0 (rw two.both few)) (or_lt 64 (get_or m i 0) v e h))
-        (λ q. rw (get_or-set_other m (t / 64) i (bit_or (get_or m (t / 64) 0) v) 0 q) e)
-
 -- of a bit that is not there, or not fit, nothing
 no_bit : (b : ℕ) (f : Bool) (t : ℕ) → bit_and b (bool_byte f) ≡ 0 → set_bit b f t ≡ 0
 no_bit b f t e = ap (λ x. x * 2 ^ (t % 64) % 2 ^ 64) e ∙ ap (λ x. x % 2 ^ 64) (zero-mul (2 ^ (t % 64)))
 
-module _ (l m : List ℕ) (t : ℕ) (f : Bool) (wl : TwoWords l) (wm : TwoWords m) (below : t < 128) where
+module _ (l m : List ℕ) (t : ℕ) (f : Bool) (wl : TwoWords l) (wm : length m ≡ 2) (below : t < 128) where
   abbrev b : ℕ
   b = read_bit l t
 
-  noting : (v : ℕ) → set_bit b f t ≡ v → v < 2 ^ 64 → b ≡ counted (set_of l) t → set_of (word_set m t v) ≡ noted (set_of l) (set_of m) t f
+  noting : (v : ℕ) → set_bit b f t ≡ v → b ≡ counted (set_of l) t → set_of (word_set m t v) ≡ noted (set_of l) (set_of m) t f
       → Notes l m t f b (word_set m t (set_bit b f t))
-  noting v e h count s = record { count = count; two = rw e (set_two m t v wm h); set = rw e s }
+  noting v e count s = record { count = count; set = rw e s }
 
   pub note_tag : Notes l m t f b (word_set m t (set_bit b f t))
   note_tag =
@@ -89,9 +77,9 @@ module _ (l m : List ℕ) (t : ℕ) (f : Bool) (wl : TwoWords l) (wm : TwoWords 
       (λ k.
       let one = read_known l wl t below k in
       by_bool f
-      (λ e. noting (2 ^ (t % 64)) (rw (one, e) (one_shl (t % 64) (omega arith))) (pow-lt {j = 64} (omega arith)) (rw k one)
-      (rw (k, e) (one_word m t wm.both below)))
-      (λ e. noting 0 (no_bit b f t (rw (one, e))) (omega arith) (rw k one) (rw (k, e) (same_words m t wm.both below))))
+      (λ e. noting (2 ^ (t % 64)) (rw (one, e) (one_shl (t % 64) (omega arith))) (rw k one)
+      (rw (k, e) (one_word m t wm below)))
+      (λ e. noting 0 (no_bit b f t (rw (one, e))) (rw k one) (rw (k, e) (same_words m t wm below))))
       (λ k.
       let none = read_unknown l wl t below k in
-      noting 0 (no_bit b f t (rw none (and_zero_l (bool_byte f)))) (omega arith) (rw k none) (rw k (same_words m t wm.both below)))
+      noting 0 (no_bit b f t (rw none (and_zero_l (bool_byte f)))) (rw k none) (rw k (same_words m t wm below)))

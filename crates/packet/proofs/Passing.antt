@@ -34,11 +34,12 @@ use Rattle.packet.specs.Encode.{longer_of}
 use Rattle.packet.specs.Verdict.{one_byte, places_from, no_places}
 use Rattle.packet.specs.Said.{header_at}
 use Rattle.packet.specs.code.Headers.{header_of, item_by}
-use Rattle.packet.specs.code.Passing.{Kept, longer_in, is_fit, found_by, counted, noted, Glances, with_header, with_item, kept_from, kept}
-use Rattle.packet.specs.code.Passing.{SeenAt, with_glance, Counted, Going}
+use Rattle.packet.specs.code.Passing.{Kept, longer_in, is_fit, found_by, counted, noted, kept_by, with_header, with_item, kept_from, kept}
+use Rattle.packet.specs.code.Passing.{SeenAt, PlainSeen, passed_with, with_plain, with_glance, Counted, Going, HasRoom}
 use Rattle.packet.specs.code.Concluded.{found_in, whole_in, coded_in}
 use Rattle.packet.specs.declared.Header.{Header}
 use Rattle.packet.specs.declared.Glance.{Glance}
+use Rattle.packet.specs.declared.Passed.{Passed}
 use Rattle.packet.proofs.Walks.{header_lies, header_back, walk_item, kept_before}
 use Rattle.packet.proofs.Walked.{Walked, done, went, header_start}
 use Rattle.packet.proofs.Accepting.{Fits, AllFit, none_fits, one_fits}
@@ -387,10 +388,7 @@ module _ (K : TagSet) (good : Good K) (w : Words K) where
   kept_withdrawn k (i ∷ is) =
       kept_withdrawn (with_item K k i) is ∙ ap (λ s. words_from is_withdrawn s (rows_of (holds K) is)) (noted_empty k.withdrawn i)
 
--- a walk that begins, and one that goes on after another
-pub going_begin : (K : TagSet) (p : List ℕ) (k : Kept) → Counted k.passed → Going K p k k
-going_begin K p k c = record { counted = c; on = omega arith; goes = refl }
-
+-- a walk that goes on after another
 pub going_on : (K : TagSet) (p : List ℕ) (fresh k l : Kept) → Going K p fresh k → Going K p k l → Going K p fresh l
 going_on K p fresh k l g h = record { counted = h.counted; on = omega (arith, g.on, h.on); goes = h.goes ∙ g.goes }
 
@@ -431,6 +429,15 @@ module _ {p : List ℕ} {at : ℕ} {g : Glance} where
   pub glanced_on : Bytes p → SeenAt p at g → at < g.past
   glanced_on by s = omega (arith, (header_lies p at by s.header s.found).on, ap (λ x. x.past) s.same)
 
+  pub glanced_inside : Bytes p → SeenAt p at g → g.past ≤ length p
+  glanced_inside by s = omega (arith, (header_lies p at by s.header s.found).inside, ap (λ x. x.past) s.same)
+
+  -- it has room in what is kept, as the walk with it goes on
+  pub glanced_room : {r : Passed} → Bytes p → length p ≤ 8192 → Counted r → SeenAt p at g → r.longer + g.longer ≤ g.past → HasRoom r g
+  glanced_room by short c s less =
+      let inside = glanced_inside by s in
+      record { tag = glanced_tag s; place = omega (arith, glanced_place s); few = c.few; fewer = c.fewer; less = omega (arith, less) }
+
 module _ (K : TagSet) (good : Good K) (w : Words K) (p : List ℕ) (by : Bytes p) (fresh k : Kept)
     (g : Going K p fresh k) (inside : k.passed.here < length p) (room : k.passed.count ≡ 128 → ⊥) where
   one_fewer : 128 - k.passed.count ≡ suc (128 - (k.passed.count + 1))
@@ -457,9 +464,8 @@ module _ (K : TagSet) (good : Good K) (w : Words K) (p : List ℕ) (by : Bytes p
             ∙ (ap (λ n. kept K k (walk n here (drop here p))) (sym one_fewer) ∙ g.goes)));
       }
 
-  pub going_glance : (i : Glance) → Glances p k.passed.here i → i.past ≤ length p → Going K p fresh (with_glance K k i)
-  going_glance i s within =
-      let seen = s.item within in
+  pub going_glance : (i : Glance) → SeenAt p k.passed.here i → Going K p fresh (with_glance K k i)
+  going_glance i seen =
       let h = seen.header in
       let fits : Bool = is_fit (item_by p h).piece in
       let same : noted K k.present (one_byte h.tag) fits ≡ noted K k.present (one_byte h.tag) i.fit =
@@ -468,3 +474,9 @@ module _ (K : TagSet) (good : Good K) (w : Words K) (p : List ℕ) (by : Bytes p
       subst (λ j. Going K p fresh (with_glance K k j)) (sym seen.same)
       (subst (λ at. Going K p fresh (kept_with K k h at (noted K k.present (one_byte h.tag) i.fit))) start
       (subst (λ s. Going K p fresh (kept_with K k h h.start s)) same (going_header h seen.found)))
+
+  -- of an item of some bytes nothing is noted as withdrawn
+  pub going_plain : (i : Glance) → PlainSeen p k.passed.here i → Going K p fresh (with_plain K k i)
+  going_plain i s =
+      subst (λ u. Going K p fresh (kept_by (passed_with K k.passed i) (set k.places i.tag i.place) (noted K k.present i.tag i.fit) u))
+      (noted_none K k.withdrawn i.tag i.empty s.some) (going_glance i s.seen)

@@ -1,6 +1,6 @@
 -- What a receiver answers of a packet: the items, or the first refusal in document 01's order.
-use Rattle.std.specs.Prelude.{ℕ, zero, suc, ◌+◌, ◌≡◌, cond, List, [], ◌∷◌, ltb, eqb, length, set, replicate}
-use Rattle.refusal.specs.Answer.{Answer, given, refused, map, then, or_else}
+use Rattle.std.specs.Prelude.{ℕ, zero, suc, ◌+◌, cond, List, [], ◌∷◌, ltb, eqb, length, set, replicate}
+use Rattle.refusal.specs.Answer.{Answer, given, refused, map, then}
 use Rattle.tagset.specs.Sets.{holds}
 use Rattle.tagset.specs.declared.TagSet.{TagSet}
 use Rattle.knowing.specs.Good.{good}
@@ -8,7 +8,6 @@ use Rattle.catalogue.specs.Extended.{is_extended}
 use Rattle.rows.specs.Present.{present_in, withdrawn_in}
 use Rattle.packet.specs.declared.Accepted.{Accepted}
 use Rattle.packet.specs.declared.Located.{Located}
-use Rattle.packet.specs.Said.{check_said}
 use Rattle.packet.specs.Pieces.{Item, pieces}
 use Rattle.packet.specs.Structure.{structure}
 use Rattle.packet.specs.Encode.{longer_of}
@@ -62,7 +61,9 @@ places_from l (i ∷ is) = places_from (set l (one_byte i.piece.tag) (found_at i
 abbrev pub no_places : List ℕ
 no_places = replicate 128 0
 
--- after a refusal there are none
-pub record Locates (K : TagSet) (p : List ℕ) (r : Located) : Type 0 where
-  pub says : check_said r.answer ≡ checked K p
-  pub places : r.places ≡ or_else no_places (places_from no_places) (received K p)
+-- the same as `checked`, with where the values are found
+abbrev pub located_of : Knowing → List Item → Located
+located_of K is = record { accepted = body_of K is; places = places_from no_places is }
+
+unfoldable pub located : TagSet → List ℕ → Answer Located
+located K p = map (located_of (holds K)) (received K p)

@@ -2,27 +2,26 @@
 // A packet is accepted exactly when document 01 allows it, and is refused by the first refusal in its order.
 #![tactic(auto)]
 
-ghost use Rattle.std.specs.Prelude.{◌≡◌, true, false, ◌+◌, ◌-◌, ◌%◌, ◌^◌, ◌<◌, ◌≤◌, length, take, drop, get_or};
-ghost use Rattle.refusal.specs.Numbers.{number};
-ghost use Rattle.refusal.specs.Answer.{refused as refusedBy, refusal as refusalOf};
+ghost use Rattle.std.specs.Prelude.{◌≡◌, true, ◌+◌, ◌-◌, ◌%◌, ◌^◌, ◌<◌, ◌≤◌, length, take, drop, get_or};
+ghost use Rattle.refusal.specs.Answer.{answer_said, refusal as refusalOf};
+ghost use Rattle.number.specs.Stored.{Bytes};
 ghost use Rattle.tagset.specs.Sets.{holds};
 ghost use Rattle.knowing.specs.Good.{good};
-ghost use Rattle.catalogue.specs.code.Column.{shape_column, mask_column, within};
+ghost use Rattle.catalogue.specs.code.Column.{within};
 ghost use Rattle.packet.specs.Judge.{fault_by, fault_of};
-ghost use Rattle.packet.specs.Said.{step_said, header_at, fault_said, right_said, check_said};
+ghost use Rattle.packet.specs.Said.{header_at, fault_said};
 ghost use Rattle.packet.specs.Pieces.{walk as walkItems};
 ghost use Rattle.packet.specs.Ends.{right_ends};
 ghost use Rattle.packet.specs.Structure.{key, same, frame};
-ghost use Rattle.packet.specs.Verdict.{one_byte, checked, Locates};
+ghost use Rattle.packet.specs.Verdict.{one_byte, checked, located};
 ghost use Rattle.packet.specs.code.Headers.{item_by, short_forms};
-ghost use Rattle.packet.specs.code.Passing.{longer_in, shortest, FitAs, found_by, Glances, asks_close, mask_at, GlancesNoting, TwoWords, set_of, Notes};
-ghost use Rattle.packet.specs.code.Passing.{kept_by, Counted, Keeps, PassesPlain};
-ghost use Rattle.packet.specs.code.Passing.{fresh_at, Passes, Stops};
-ghost use Rattle.packet.specs.code.Concluded.{frame_said, WalksFrom, judged_from, header_in, ends_by, summed_at, closed_by, coded_in, found_in};
+ghost use Rattle.packet.specs.code.Passing.{longer_in, shortest, FitAs, found_by, SaidAt, asks_close, mask_at, PlainAt, TwoWords, set_of, Notes};
+ghost use Rattle.packet.specs.code.Passing.{kept_in, with_plain, with_glance, Counted, HasRoom, Going, fresh_at, Passes, Stops};
+ghost use Rattle.packet.specs.code.Concluded.{WalksFrom, judged_from, header_in, ends_by, summed_at, closed_by, coded_in, found_in};
 ghost use Rattle.packet.specs.code.Concluded.{whole_in, clean_in, begun_by, PlacesIn, Whole, right_from, Begins, ChecksFrom};
 
-use catalogue::Shape;
-use refusal::{Reason, Refusal};
+use catalogue::{MaskColumn, Shape, ShapeColumn};
+use refusal::{Reason, Refusal, refused};
 use tagset::TagSet;
 
 // What stands before a value: the tag, where the item starts, where its value stands, and how many bytes that has.
@@ -34,47 +33,24 @@ pub struct Header {
     pub size: usize,
 }
 
-#[derive(Clone, Copy)]
-pub enum Step {
-    Item(Header),
-    Refused(Refusal),
-}
-
 // The item at a place of a packet, whatever its tag and its length are.
-fn any_item_at(packet: &[u8], at: usize) -> Step
-    ensures { step_said result ≡ header_at packet.now at }
+fn any_item_at(packet: &[u8], at: usize) -> Result<Header, Refusal>
+    ensures { answer_said result ≡ header_at packet.now at }
 {
-    let ber::Field::Is {
-        value: tag,
-        size: tag_size,
-    } = ber::tag_at(packet, at)
-    else {
-        return Step::Refused(Refusal {
-            reason: Reason::TagBroken,
-            place: at,
-            tag: 0,
-        });
+    let Some(tag) = ber::tag_at(packet, at) else {
+        return refused(Reason::TagBroken, at, 0);
     };
-    let broken = Refusal {
-        reason: Reason::LengthBroken,
-        place: at,
-        tag,
+    let after = at + tag.size;
+    let Some(length) = ber::length_at(packet, after) else {
+        return refused(Reason::LengthBroken, at, tag.value);
     };
-    let after = at + tag_size;
-    let ber::Field::Is {
-        value: length,
-        size: length_size,
-    } = ber::length_at(packet, after)
-    else {
-        return Step::Refused(broken);
-    };
-    let place = after + length_size;
-    let size = length as usize;
+    let place = after + length.size;
+    let size = length.value as usize;
     if packet.len() - place < size {
-        return Step::Refused(broken);
+        return refused(Reason::LengthBroken, at, tag.value);
     }
-    Step::Item(Header {
-        tag,
+    Ok(Header {
+        tag: tag.value,
         start: at,
         place,
         size,
@@ -85,17 +61,12 @@ fn any_item_at(packet: &[u8], at: usize) -> Step
 fn is_short(tag: u64, length: u64) -> bool
     ensures { result ≡ short_forms tag length }
 {
-    if 0 < tag {
-        if tag < 128 {
-            return length < 128;
-        }
-    }
-    false
+    0 < tag && tag < 128 && length < 128
 }
 
 // The item at a place of a packet: most have a tag and a length of one byte each.
-pub fn item_at(packet: &[u8], at: usize) -> Step
-    ensures { step_said result ≡ header_at packet.now at }
+pub fn item_at(packet: &[u8], at: usize) -> Result<Header, Refusal>
+    ensures { answer_said result ≡ header_at packet.now at }
 {
     if packet.len() < 2 {
         return any_item_at(packet, at);
@@ -104,19 +75,15 @@ pub fn item_at(packet: &[u8], at: usize) -> Step
         return any_item_at(packet, at);
     }
     let after = at + 1;
-    let tag = number::wide(packet[at]);
-    let length = number::wide(packet[after]);
+    let tag = u64::from(packet[at]);
+    let length = u64::from(packet[after]);
     if is_short(tag, length) {
         let place = after + 1;
         let size = length as usize;
         if packet.len() < place + size {
-            return Step::Refused(Refusal {
-                reason: Reason::LengthBroken,
-                place: at,
-                tag,
-            });
+            return refused(Reason::LengthBroken, at, tag);
         }
-        return Step::Item(Header {
+        return Ok(Header {
             tag,
             start: at,
             place,
@@ -124,13 +91,6 @@ pub fn item_at(packet: &[u8], at: usize) -> Step
         });
     }
     any_item_at(packet, at)
-}
-
-// What is wrong with a known item, if anything is.
-#[derive(Clone, Copy)]
-pub enum Fault {
-    Clean,
-    Wrong(Reason),
 }
 
 // What is looked at in a known item: its shape and tag, the length and the code of its value, whether its tag came before.
@@ -143,33 +103,39 @@ pub struct Looked {
     pub twice: bool,
 }
 
-// The rule for a known item, for reader and writer alike: its length, that it stands once, its code.
-pub fn fault_of(item: Looked) -> Fault
+// The rule for a known item, for reader and writer alike: its length, that it stands once, its code. What is wrong with it, if anything is.
+pub fn fault_of(item: Looked) -> Result<(), Reason>
     ensures { fault_said result ≡ fault_by item }
 {
     let shape = item.shape;
     if catalogue::allows_size(item.tag, shape, item.size) {
         if item.twice {
-            return Fault::Wrong(Reason::KnownTagTwice);
+            return Err(Reason::KnownTagTwice);
         }
         if catalogue::allows_code(item.tag, item.size, item.code) {
-            return Fault::Clean;
+            return Ok(());
         }
-        return Fault::Wrong(Reason::CodeNotAllowed);
+        return Err(Reason::CodeNotAllowed);
     }
-    Fault::Wrong(Reason::LengthNotAllowed)
+    Err(Reason::LengthNotAllowed)
 }
 
 // What is wrong with an item for a receiver: nothing where it does not know the tag.
-fn fault_at(packet: &[u8], column: &[u8; 128], known: TagSet, seen: TagSet, item: Header) -> Fault
-    requires { (column.now ≡ shape_column) × (item.place + item.size ≤ length packet.now) }
+fn fault_at(
+    packet: &[u8],
+    shapes: &ShapeColumn,
+    known: TagSet,
+    seen: TagSet,
+    item: Header,
+) -> Result<(), Reason>
+    requires { item.place + item.size ≤ length packet.now }
     ensures { fault_said result ≡ fault_of (holds known) (holds seen) (item_by packet.now item).piece }
 {
     let tag = item.tag;
     let size = item.size;
     let place = item.place;
     if tagset::has(known, tag) {
-        let shape = catalogue::shape_at(column, tag);
+        let shape = shapes.of(tag);
         let twice = tagset::has(seen, tag);
         if catalogue::limits_codes(tag) {
             let end = place + size;
@@ -191,57 +157,35 @@ fn fault_at(packet: &[u8], column: &[u8; 128], known: TagSet, seen: TagSet, item
             twice,
         });
     }
-    Fault::Clean
+    Ok(())
 }
 
-// Whether something is right, or the refusal.
-#[derive(Clone, Copy)]
-pub enum Right {
-    Yes,
-    Refused(Refusal),
-}
-
-// Item by item the faults of known items, then item 65: the exact walk, of a packet whose structure is right.
-fn judged(packet: &[u8], from: usize, known: TagSet) -> Right
+// Item by item the faults of known items, then item 65: the exact walk, of a packet whose structure is right. The writer walks over its rows in the
+// same way, and both ask `fault_of`.
+fn judged(packet: &[u8], from: usize, known: TagSet) -> Result<(), Refusal>
     requires { WalksFrom packet.now from }
-    ensures { right_said result ≡ judged_from known packet.now from }
+    ensures { answer_said result ≡ judged_from known packet.now from }
 {
-    let column = catalogue::shapes();
+    let shapes = catalogue::shapes();
     let mut seen = TagSet { low: 0, high: 0 };
     let mut here = from;
+    // from item to item, each step as long as its item: an iterator of items would be this loop once more
     while here < packet.len() {
-        match item_at(packet, here) {
-            Step::Refused(refusal) => {
-                return Right::Refused(refusal);
-            }
-            Step::Item(item) => match fault_at(packet, &column, known, seen, item) {
-                Fault::Wrong(reason) => {
-                    return Right::Refused(Refusal {
-                        reason,
-                        place: here,
-                        tag: item.tag,
-                    });
-                }
-                Fault::Clean => {
-                    seen = tagset::with_tag(seen, item.tag);
-                    here = item.place + item.size;
-                }
-            },
+        let item = item_at(packet, here)?;
+        if let Err(reason) = fault_at(packet, &shapes, known, seen, item) {
+            return refused(reason, here, item.tag);
         }
+        seen = tagset::with_tag(seen, item.tag);
+        here = item.place + item.size;
     }
     if tagset::has(seen, 65) {
-        return Right::Yes;
+        return Ok(());
     }
-    Right::Refused(Refusal {
-        reason: Reason::VersionMissing,
-        place: 0,
-        tag: 0,
-    })
+    refused(Reason::VersionMissing, 0, 0)
 }
 
 // An item at a glance: its tag where one byte says it, else 0, which no item has; where its tag is known, whether it is fit; whether it has no
-// bytes; where its value is found; the place past it, which is past the packet where there is no item; by how many bytes its length is longer than in
-// its shortest form.
+// bytes; where its value is found; the place past it; by how many bytes its length is longer than in its shortest form.
 #[derive(Clone, Copy)]
 struct Glance {
     tag: usize,
@@ -276,30 +220,8 @@ fn is_within(mask: u8, size: u8) -> bool
     (size | mask) == mask
 }
 
-// Whether an item is fit: it has no bytes, or its length is allowed, and of an extended height its code too.
-fn is_fit(packet: &[u8], column: &[u8; 128], item: Header) -> bool
-    requires { (column.now ≡ mask_column) × (item.place + item.size ≤ length packet.now) }
-    ensures { FitAs packet.now item result }
-{
-    let tag = one_byte(item.tag);
-    let size = item.size;
-    if size == 0 {
-        return true;
-    }
-    if catalogue::is_extended(tag as u64) {
-        let place = item.place;
-        let end = place + size;
-        return catalogue::is_in_reach(size, number::value(&packet[place..end]));
-    }
-    let long = 128 <= size;
-    if long {
-        return false;
-    }
-    is_within(column[tag], size as u8)
-}
-
 // Where the value of an item is found: by the place past it, for its tag tells its length; that of an extended height, which does not, by its
-// own place, before which its length stands; where there are no bytes, nowhere.
+// own place, before which its length stands; where there are no bytes, nowhere, which is 0, as `Located` says it.
 fn found_at(item: Header) -> usize
     requires { item.place + item.size < 2 ^ 64 }
     ensures { result ≡ found_by item }
@@ -313,211 +235,238 @@ fn found_at(item: Header) -> usize
     item.place + item.size
 }
 
-// Any item at a glance.
-fn any_glance_at(packet: &[u8], column: &[u8; 128], at: usize) -> Glance
-    requires { column.now ≡ mask_column }
-    ensures { Glances packet.now at result }
-{
-    match any_item_at(packet, at) {
-        Step::Refused(_) => Glance {
-            tag: 0,
-            fit: false,
-            empty: false,
-            place: 0,
-            past: packet.len() + 1,
-            longer: 0,
-        },
-        Step::Item(item) => Glance {
-            tag: one_byte(item.tag),
-            fit: is_fit(packet, column, item),
-            empty: item.size == 0,
-            place: found_at(item),
-            past: item.place + item.size,
-            longer: longer_by(item),
-        },
-    }
-}
-
-// Any item at a glance; the tag of a known one that has no bytes is noted.
-fn close_glance_at(
-    packet: &[u8],
-    column: &[u8; 128],
-    words: &[u64; 2],
-    withdrawn: &mut [u64; 2],
-    at: usize,
-) -> Glance
-    requires { (column.now ≡ mask_column) × TwoWords words.now × TwoWords withdrawn.old }
-    ensures { GlancesNoting packet.now words.now withdrawn.old at result withdrawn.new }
-{
-    let item = any_glance_at(packet, column, at);
-    if item.empty {
-        note(words, withdrawn, item.tag, true);
-    }
-    item
-}
-
 // Whether a tag and a length ask for a closer look: of more than one byte, or no bytes.
 fn is_close(tag: u8, size: u8) -> bool
     ensures { result ≡ asks_close tag size }
 {
-    if 128 <= (tag | size) {
-        return true;
-    }
-    size == 0
+    128 <= (tag | size) || size == 0
 }
 
-// The mask of the lengths of the item at a place, 128 where it asks for a closer look; tag 0 does, for it is none.
-fn mask_at(packet: &[u8], column: &[u8; 128], at: usize) -> u8
-    requires { (column.now ≡ mask_column) × (at + 2 ≤ length packet.now) }
-    ensures { result ≡ mask_at packet.now at }
+// Two words of tags as a set.
+fn as_set(words: [u64; 2]) -> TagSet
+    ensures { result ≡ set_of words }
 {
-    let tag = packet[at];
-    if is_close(tag, packet[at + 1]) {
-        return 128;
-    }
-    column[tag as usize]
-}
-
-// Most items have a tag and a length of one byte each, and need no closer look.
-fn glance_at(packet: &[u8], mask: u8, at: usize) -> Glance
-    requires { (at + 2 ≤ length packet.now) × (mask ≡ mask_at packet.now at) × (mask < 128) }
-    ensures { Glances packet.now at result × (result.empty ≡ false) }
-{
-    let after = at + 1;
-    let past = after + 1 + packet[after] as usize;
-    Glance {
-        tag: packet[at] as usize,
-        fit: is_within(mask, packet[after]),
-        empty: false,
-        place: past,
-        past,
-        longer: 0,
+    TagSet {
+        low: words[0],
+        high: words[1],
     }
 }
 
-// Notes a known item that is fit in the two words of tags, and says 1 where its tag is known, else 0: without a branch.
-fn note(words: &[u64; 2], present: &mut [u64; 2], tag: usize, fit: bool) -> usize
-    requires { TwoWords words.now × TwoWords present.old × (tag < 128) }
-    ensures { Notes words.now present.old tag fit result present.new }
-{
-    let word = tag / 64;
-    let shift = tag % 64;
-    let known = (words[word] >> shift) & 1;
-    let noted = known & fit as u64;
-    present[word] = present[word] | (noted << shift);
-    known as usize
-}
-
-// What a walk keeps of the items that it has passed: where it stands, how many they are, where the last one starts, by how many bytes
+// What a walk keeps of the items that it has passed: where the last one starts, where it stands, how many they are, by how many bytes
 // their lengths are longer than in their shortest forms, and how many of them are known.
 #[derive(Clone, Copy)]
 struct Passed {
+    last: usize,
     here: usize,
     count: usize,
-    last: usize,
     longer: usize,
     known: usize,
 }
 
-// Keeps an item: for its tag where its value is found, and in the two words its tag, if it is known and fit.
-fn keep(
-    words: &[u64; 2],
-    places: &mut [u16; 128],
-    present: &mut [u64; 2],
-    passed: Passed,
-    item: Glance,
-) -> Passed
-    requires { TwoWords words.now × TwoWords present.old × (item.tag < 128) × (item.place ≤ 8192) × (passed.count ≤ 128)
-        × (passed.known ≤ passed.count) × (passed.longer + item.longer ≤ 8192) }
-    ensures { Keeps words.now places.old present.old passed item result places.new present.new }
-{
-    let tag = item.tag;
-    let one = note(words, present, tag, item.fit);
-    places[tag] = item.place as u16;
-    Passed {
-        here: item.past,
-        count: passed.count + 1,
-        last: passed.here,
-        longer: passed.longer + item.longer,
-        known: passed.known + one,
-    }
+// The tags that a walk has noted, in two words each: of the known items that are fit, and of those that have no bytes. The column of places stands
+// apart: tried as a field here, and a check of a small packet took 5 percent more, for the compiler clears so many bytes by a call.
+#[derive(Clone, Copy)]
+struct Noted {
+    present: [u64; 2],
+    withdrawn: [u64; 2],
 }
 
-// The items from where a walk stands on that need no closer look, without a branch for what they are. An item has two bytes, so none begins with
-// the last one.
-fn pass_plain(
-    packet: &[u8],
-    column: &[u8; 128],
-    words: &[u64; 2],
-    places: &mut [u16; 128],
-    present: &mut [u64; 2],
-    from: Passed,
-) -> Passed
-    requires { (column.now ≡ mask_column) × TwoWords words.now × (good (set_of words.now) ≡ true) × TwoWords present.old
-        × (2 ≤ length packet.now) × (length packet.now ≤ 8192) × Counted from }
-    ensures { PassesPlain (set_of words.now) packet.now places.old present.old from result
-        places.new present.new }
-{
-    let last_byte = packet.len() - 1;
-    let mut passed = from;
-    while passed.here < last_byte {
-        if passed.count == 128 {
-            return passed;
+// What the walk at a glance goes by: a packet of a right frame, the masks of all lengths, and the tags of a good knowing set as two words, in which
+// a tag's bit is found without a branch.
+#[derive(Clone, Copy)]
+struct Walk<'a> {
+    packet: &'a [u8],
+    masks: &'a MaskColumn,
+    known: &'a [u64; 2],
+    ghost bytes: { Bytes packet.now },
+    ghost some: { 2 ≤ length packet.now },
+    ghost short: { length packet.now ≤ 8192 },
+    ghost words: { TwoWords known.now },
+    ghost knows: { good (set_of known.now) ≡ true },
+}
+
+impl Walk<'_> {
+    // Whether an item is fit: it has no bytes, or its length is allowed, and of an extended height its code too.
+    fn is_fit(&self, item: Header) -> bool
+        requires { item.place + item.size ≤ length self.now.packet.now }
+        ensures { FitAs self.now.packet.now item result }
+    {
+        let tag = one_byte(item.tag);
+        let size = item.size;
+        if size == 0 {
+            return true;
         }
-        let mask = mask_at(packet, column, passed.here);
+        if catalogue::is_extended(tag as u64) {
+            let place = item.place;
+            let end = place + size;
+            return catalogue::is_in_reach(size, number::value(&self.packet[place..end]));
+        }
+        let long = 128 <= size;
+        if long {
+            return false;
+        }
+        is_within(self.masks.column[tag], size as u8)
+    }
+
+    // Any item at a glance, if there is one.
+    fn any_glance_at(&self, at: usize) -> Option<Glance>
+        ensures { SaidAt self.now.packet.now at result }
+    {
+        let Ok(item) = any_item_at(self.packet, at) else {
+            return None;
+        };
+        Some(Glance {
+            tag: one_byte(item.tag),
+            fit: self.is_fit(item),
+            empty: item.size == 0,
+            place: found_at(item),
+            past: item.place + item.size,
+            longer: longer_by(item),
+        })
+    }
+
+    // The mask of the lengths of the item at a place, 128 where it asks for a closer look, as the catalogue's masks say it; tag 0 does, for it is none.
+    fn mask_at(&self, at: usize) -> u8
+        requires { at + 2 ≤ length self.now.packet.now }
+        ensures { result ≡ mask_at self.now.packet.now at }
+    {
+        let tag = self.packet[at];
+        if is_close(tag, self.packet[at + 1]) {
+            return 128;
+        }
+        self.masks.column[tag as usize]
+    }
+
+    // An item at a glance: most have a tag and a length of one byte each, and need no closer look. Of others it says nothing.
+    fn glance_at(&self, at: usize) -> Option<Glance>
+        requires { at + 2 ≤ length self.now.packet.now }
+        ensures { PlainAt self.now.packet.now at result }
+    {
+        let mask = self.mask_at(at);
         if 128 <= mask {
-            return passed;
+            return None;
         }
-        let item = glance_at(packet, mask, passed.here);
-        if packet.len() < item.past {
-            return passed;
+        let after = at + 1;
+        let past = after + 1 + self.packet[after] as usize;
+        if self.packet.len() < past {
+            return None;
         }
-        passed = keep(words, places, present, passed, item);
+        Some(Glance {
+            tag: self.packet[at] as usize,
+            fit: is_within(mask, self.packet[after]),
+            empty: false,
+            place: past,
+            past,
+            longer: 0,
+        })
     }
-    passed
-}
 
-// All items from a place to the packet's end, at most 128 of them; for each tag where its last value is found, in two words the tags of the known
-// ones that are fit, and in two more those of the known ones that have no bytes.
-fn pass(
-    packet: &[u8],
-    from: usize,
-    known: TagSet,
-    places: &mut [u16; 128],
-    present: &mut [u64; 2],
-    withdrawn: &mut [u64; 2],
-) -> Passed
-    requires { (good known ≡ true) × (2 ≤ length packet.now) × (length packet.now ≤ 8192) × (from ≤ length packet.now)
-        × TwoWords present.old × TwoWords withdrawn.old }
-    ensures { Passes known packet.now
-        (fresh_at from places.old (set_of present.old) (set_of withdrawn.old))
-        (kept_by result places.new (set_of present.new) (set_of withdrawn.new)) }
-{
-    let column = catalogue::length_masks();
-    let words = [known.low, known.high];
-    let last_byte = packet.len() - 1;
-    let mut passed = Passed {
-        here: from,
-        count: 0,
-        last: from,
-        longer: 0,
-        known: 0,
-    };
-    while passed.here < last_byte {
-        passed = pass_plain(packet, &column, &words, places, present, passed);
-        if last_byte <= passed.here {
-            return passed;
-        }
-        if passed.count == 128 {
-            return passed;
-        }
-        let item = close_glance_at(packet, &column, &words, withdrawn, passed.here);
-        if packet.len() < item.past {
-            return passed;
-        }
-        passed = keep(&words, places, present, passed, item);
+    // Notes a known item that is fit in two words of tags, and says 1 where its tag is known, else 0: without a branch.
+    fn note(&self, tags: &mut [u64; 2], tag: usize, fit: bool) -> usize
+        requires { tag < 128 }
+        ensures { Notes self.now.known.now tags.old tag fit result tags.new }
+    {
+        let word = tag / 64;
+        let shift = tag % 64;
+        let known = (self.known[word] >> shift) & 1;
+        let noted = known & fit as u64;
+        tags[word] = tags[word] | (noted << shift);
+        known as usize
     }
-    passed
+
+    // Keeps an item: for its tag where its value is found, and among those present its tag, if it is known and fit.
+    fn keep(
+        &self,
+        places: &mut [u16; 128],
+        noted: &mut Noted,
+        passed: Passed,
+        item: Glance,
+    ) -> Passed
+        requires { HasRoom passed item }
+        ensures { kept_in result places.new noted.new ≡ with_plain (set_of self.now.known.now) (kept_in passed places.old noted.old) item }
+    {
+        let tag = item.tag;
+        let one = self.note(&mut noted.present, tag, item.fit);
+        places[tag] = item.place as u16;
+        Passed {
+            here: item.past,
+            count: passed.count + 1,
+            last: passed.here,
+            longer: passed.longer + item.longer,
+            known: passed.known + one,
+        }
+    }
+
+    // Keeps an item, and if it has no bytes, its tag among those withdrawn.
+    fn keep_close(
+        &self,
+        places: &mut [u16; 128],
+        noted: &mut Noted,
+        passed: Passed,
+        item: Glance,
+    ) -> Passed
+        requires { HasRoom passed item }
+        ensures { kept_in result places.new noted.new ≡ with_glance (set_of self.now.known.now) (kept_in passed places.old noted.old) item }
+    {
+        let kept = self.keep(places, noted, passed, item);
+        if item.empty {
+            self.note(&mut noted.withdrawn, item.tag, true);
+        }
+        kept
+    }
+
+    // The items from where a walk stands on that need no closer look, without a branch for what they are. An item has two bytes, so none begins with
+    // the last one.
+    fn pass_plain(&self, places: &mut [u16; 128], noted: &mut Noted, from: Passed) -> Passed
+        requires { Counted from }
+        ensures { Going (set_of self.now.known.now) self.now.packet.now
+            (kept_in from places.old noted.old) (kept_in result places.new noted.new) }
+    {
+        let last_byte = self.packet.len() - 1;
+        let mut passed = from;
+        // from item to item, as in `judged`
+        while passed.here < last_byte {
+            if passed.count == 128 {
+                return passed;
+            }
+            let Some(item) = self.glance_at(passed.here) else {
+                return passed;
+            };
+            passed = self.keep(places, noted, passed, item);
+        }
+        passed
+    }
+
+    // All items from a place to the packet's end, at most 128 of them.
+    fn pass(&self, from: usize, places: &mut [u16; 128], noted: &mut Noted) -> Passed
+        ensures { Passes (set_of self.now.known.now) self.now.packet.now
+            (fresh_at from places.old (set_of noted.old.present) (set_of noted.old.withdrawn)) (kept_in result places.new noted.new) }
+    {
+        let last_byte = self.packet.len() - 1;
+        let mut passed = Passed {
+            here: from,
+            count: 0,
+            last: from,
+            longer: 0,
+            known: 0,
+        };
+        // from item to item, as in `judged`
+        while passed.here < last_byte {
+            passed = self.pass_plain(places, noted, passed);
+            // two tests: joined by `||` they were tried, and a longer form took an instruction more
+            if last_byte <= passed.here {
+                return passed;
+            }
+            if passed.count == 128 {
+                return passed;
+            }
+            let Some(item) = self.any_glance_at(passed.here) else {
+                return passed;
+            };
+            passed = self.keep_close(places, noted, passed, item);
+        }
+        passed
+    }
 }
 
 fn has_key(packet: &[u8]) -> bool
@@ -526,48 +475,29 @@ fn has_key(packet: &[u8]) -> bool
     if packet.len() < 16 {
         return false;
     }
-    if number::value(&packet[0..8]) == 0x060E_2B34_020B_0101 {
-        return number::value(&packet[8..16]) == 0x0E01_0301_0100_0000;
-    }
-    false
+    number::value(&packet[0..8]) == 0x060E_2B34_020B_0101
+        && number::value(&packet[8..16]) == 0x0E01_0301_0100_0000
 }
 
-// Where the items begin.
-#[derive(Clone, Copy)]
-enum Frame {
-    From(usize),
-    Refused(Refusal),
-}
-
-fn unframed(reason: Reason, place: usize) -> Frame
-    ensures { frame_said result ≡ refusedBy (number reason) place 0 }
-{
-    Frame::Refused(Refusal {
-        reason,
-        place,
-        tag: 0,
-    })
-}
-
-// The key and the outer length.
-fn framed(packet: &[u8]) -> Frame
-    ensures { frame_said result ≡ frame packet.now }
+// The key and the outer length: where the items begin.
+fn framed(packet: &[u8]) -> Result<usize, Refusal>
+    ensures { answer_said result ≡ frame packet.now }
 {
     if 8192 < packet.len() {
-        return unframed(Reason::PacketTooLong, 0);
+        return refused(Reason::PacketTooLong, 0, 0);
     }
     if has_key(packet) {
-        let ber::Field::Is { value, size } = ber::length_at(packet, 16) else {
-            return unframed(Reason::OuterLengthWrong, 16);
+        let Some(length) = ber::length_at(packet, 16) else {
+            return refused(Reason::OuterLengthWrong, 16, 0);
         };
-        let from = 16 + size;
-        let rest = value as usize;
+        let from = 16 + length.size;
+        let rest = length.value as usize;
         if packet.len() == from + rest {
-            return Frame::From(from);
+            return Ok(from);
         }
-        return unframed(Reason::OuterLengthWrong, 16);
+        return refused(Reason::OuterLengthWrong, 16, 0);
     }
-    unframed(Reason::KeyDiffers, 0)
+    refused(Reason::KeyDiffers, 0, 0)
 }
 
 // An accepted packet: where its items begin, how many there are, by how many bytes their forms are longer than the shortest, and as two
@@ -581,12 +511,6 @@ pub struct Accepted {
     pub withdrawn: TagSet,
 }
 
-#[derive(Clone, Copy)]
-pub enum Checked {
-    Accepted(Accepted),
-    Refused(Refusal),
-}
-
 // The first and the last of the items or rows: where each is said to stand, its tag, and the last one's length.
 #[derive(Clone, Copy)]
 pub struct Ends {
@@ -598,52 +522,29 @@ pub struct Ends {
 }
 
 // The rule for first and last, for reader and writer alike.
-pub fn check_ends(ends: Ends) -> Right
-    ensures { right_said result ≡ right_ends ends }
+pub fn check_ends(ends: Ends) -> Result<(), Refusal>
+    ensures { answer_said result ≡ right_ends ends }
 {
-    if ends.first == 2 {
-        if ends.last == 1 {
-            let two_bytes = ends.size == 2;
-            if two_bytes {
-                return Right::Yes;
-            }
-        }
-        return Right::Refused(Refusal {
-            reason: Reason::LastNotChecksum,
-            place: ends.end,
-            tag: ends.last,
-        });
+    if ends.first != 2 {
+        return refused(Reason::FirstNotTimeStamp, ends.start, ends.first);
     }
-    Right::Refused(Refusal {
-        reason: Reason::FirstNotTimeStamp,
-        place: ends.start,
-        tag: ends.first,
-    })
+    let two_bytes = ends.size == 2;
+    if ends.last == 1 && two_bytes {
+        return Ok(());
+    }
+    refused(Reason::LastNotChecksum, ends.end, ends.last)
 }
 
-// The tag of the item at a place, 0 where there is none.
-fn tag_at(packet: &[u8], at: usize) -> u64
-    ensures { result ≡ (header_in packet.now at).tag }
-{
-    match item_at(packet, at) {
-        Step::Item(item) => item.tag,
-        Step::Refused(_) => 0,
-    }
-}
-
-// The header of the item at a place; where there is none, one with nothing in it.
+// The header of the item at a place; where there is none, one with nothing in it, whose tag 0 a refusal shows.
 fn header_at(packet: &[u8], at: usize) -> Header
     ensures { result ≡ header_in packet.now at }
 {
-    match item_at(packet, at) {
-        Step::Item(item) => item,
-        Step::Refused(_) => Header {
-            tag: 0,
-            start: 0,
-            place: 0,
-            size: 0,
-        },
-    }
+    item_at(packet, at).unwrap_or(Header {
+        tag: 0,
+        start: 0,
+        place: 0,
+        size: 0,
+    })
 }
 
 // The first and the last item; where there is none, the first one is said to be absent where the items begin, at the packet's end.
@@ -652,7 +553,7 @@ fn ends_of(packet: &[u8], from: usize, last: Header) -> Ends
 {
     Ends {
         start: from,
-        first: tag_at(packet, from),
+        first: header_at(packet, from).tag,
         end: last.start,
         last: last.tag,
         size: last.size,
@@ -671,41 +572,32 @@ fn is_summed(packet: &[u8], place: usize) -> bool
 }
 
 // First, last and sum.
-fn closed(packet: &[u8], from: usize, last: Header) -> Right
+fn closed(packet: &[u8], from: usize, last: Header) -> Result<(), Refusal>
     requires { last.place + last.size ≤ length packet.now }
-    ensures { right_said result ≡ closed_by packet.now from last }
+    ensures { answer_said result ≡ closed_by packet.now from last }
 {
-    match check_ends(ends_of(packet, from, last)) {
-        Right::Refused(refusal) => Right::Refused(refusal),
-        Right::Yes => {
-            let place = last.place;
-            if is_summed(packet, place) {
-                return Right::Yes;
-            }
-            Right::Refused(Refusal {
-                reason: Reason::ChecksumDiffers,
-                place,
-                tag: 1,
-            })
-        }
+    check_ends(ends_of(packet, from, last))?;
+    let place = last.place;
+    if is_summed(packet, place) {
+        return Ok(());
     }
+    refused(Reason::ChecksumDiffers, place, 1)
 }
 
-// Whether an item of one byte is not known, has no value, or has one of its codes.
+// Whether an item of one byte is not known, has no value, or has one of its codes. Packet, known and places are no struct: the
+// places are lent to the walk to be written, and are read only after it, by two functions.
 fn is_coded(packet: &[u8], known: TagSet, places: &[u16; 128], tag: usize) -> bool
     requires { (tag < 128) × (get_or places.now tag 0 ≤ length packet.now) }
     ensures { result ≡ coded_in known packet.now places.now tag }
 {
     let end = places[tag] as usize;
-    if 0 < end {
-        if tagset::has(known, tag as u64) {
-            return catalogue::allows_code(tag as u64, 1, number::wide(packet[end - 1]));
-        }
+    if 0 < end && tagset::has(known, tag as u64) {
+        return catalogue::allows_code(tag as u64, 1, u64::from(packet[end - 1]));
     }
     true
 }
 
-// Whether a value was found for a tag.
+// Whether a value was found for a tag: 0 is no place, as `Located` says it.
 fn is_found(places: &[u16; 128], tag: usize) -> bool
     requires { tag < 128 }
     ensures { result ≡ found_in places.now tag }
@@ -717,12 +609,7 @@ fn is_found(places: &[u16; 128], tag: usize) -> bool
 fn is_whole(places: &[u16; 128]) -> bool
     ensures { result ≡ whole_in places.now }
 {
-    if is_found(places, 1) {
-        if is_found(places, 2) {
-            return is_found(places, 65);
-        }
-    }
-    false
+    is_found(places, 1) && is_found(places, 2) && is_found(places, 65)
 }
 
 // Whether nothing is wrong with the known items: each was noted by its own tag, 34 and 63 have their codes, and what a packet needs has a value.
@@ -736,22 +623,10 @@ fn is_clean(
     requires { PlacesIn (length packet.now) places.now }
     ensures { result ≡ clean_in known packet.now places.now present count }
 {
-    if tagset::size_of(present) != count {
-        return false;
-    }
-    if is_whole(places) {
-        if is_coded(packet, known, places, 34) {
-            return is_coded(packet, known, places, 63);
-        }
-    }
-    false
-}
-
-// The tags that a walk has noted: of the known items that are fit, and of those that have no bytes.
-#[derive(Clone, Copy)]
-struct Noted {
-    present: TagSet,
-    withdrawn: TagSet,
+    tagset::size_of(present) == count
+        && is_whole(places)
+        && is_coded(packet, known, places, 34)
+        && is_coded(packet, known, places, 63)
 }
 
 // First, last and sum of the items passed; then the exact walk names the fault, if something is wrong.
@@ -760,21 +635,17 @@ fn concluded(
     from: usize,
     known: TagSet,
     places: &[u16; 128],
-    noted: Noted,
+    noted: &Noted,
     passed: Passed,
-) -> Right
-    requires { Whole known packet.now from (kept_by passed places.now noted.present noted.withdrawn) }
-    ensures { right_said result ≡ right_from known packet.now from }
+) -> Result<(), Refusal>
+    requires { Whole known packet.now from (kept_in passed places.now noted.now) }
+    ensures { answer_said result ≡ right_from known packet.now from }
 {
-    match closed(packet, from, header_at(packet, passed.last)) {
-        Right::Refused(refusal) => Right::Refused(refusal),
-        Right::Yes => {
-            if is_clean(packet, known, places, noted.present, passed.known) {
-                return Right::Yes;
-            }
-            judged(packet, from, known)
-        }
+    closed(packet, from, header_at(packet, passed.last))?;
+    if is_clean(packet, known, places, as_set(noted.present), passed.known) {
+        return Ok(());
     }
+    judged(packet, from, known)
 }
 
 // Why a walk stopped before the packet's end: too many items, or none at its place.
@@ -791,96 +662,81 @@ fn stopped(packet: &[u8], here: usize, count: usize) -> Refusal
         return full;
     }
     match any_item_at(packet, here) {
-        Step::Refused(refusal) => refusal,
-        Step::Item(_) => full,
+        Err(refusal) => refusal,
+        Ok(_) => full,
     }
 }
 
 // The items, once it is known where they begin; in a column of nothing, for each tag where its value is found.
-fn check_from(packet: &[u8], from: usize, known: TagSet, places: &mut [u16; 128]) -> Checked
+fn check_from(
+    packet: &[u8],
+    from: usize,
+    known: TagSet,
+    places: &mut [u16; 128],
+) -> Result<Accepted, Refusal>
     requires { Begins known packet.now from places.old }
     ensures { ChecksFrom known packet.now from result places.new }
 {
-    let mut words = [0u64; 2];
-    let mut empty = [0u64; 2];
-    let passed = pass(packet, from, known, places, &mut words, &mut empty);
-    let present = TagSet {
-        low: words[0],
-        high: words[1],
+    let masks = catalogue::length_masks();
+    let words = [known.low, known.high];
+    let walk = Walk {
+        packet,
+        masks: &masks,
+        known: &words,
     };
-    let withdrawn = TagSet {
-        low: empty[0],
-        high: empty[1],
+    let mut noted = Noted {
+        present: [0; 2],
+        withdrawn: [0; 2],
     };
-    let noted = Noted { present, withdrawn };
-    let here = passed.here;
-    let count = passed.count;
-    let longer = passed.longer;
-    if here < packet.len() {
-        return Checked::Refused(stopped(packet, here, count));
+    let passed = walk.pass(from, places, &mut noted);
+    if passed.here < packet.len() {
+        return Err(stopped(packet, passed.here, passed.count));
     }
-    match concluded(packet, from, known, places, noted, passed) {
-        Right::Refused(refusal) => Checked::Refused(refusal),
-        Right::Yes => Checked::Accepted(Accepted {
-            from,
-            count,
-            longer,
-            present,
-            withdrawn,
-        }),
-    }
+    concluded(packet, from, known, places, &noted, passed)?;
+    Ok(Accepted {
+        from,
+        count: passed.count,
+        longer: passed.longer,
+        present: as_set(noted.present),
+        withdrawn: as_set(noted.withdrawn),
+    })
 }
 
 // Where the items begin, for a good knowing set.
-fn begun(packet: &[u8], known: TagSet) -> Frame
-    ensures { frame_said result ≡ begun_by known packet.now }
+fn begun(packet: &[u8], known: TagSet) -> Result<usize, Refusal>
+    ensures { answer_said result ≡ begun_by known packet.now }
 {
     if knowing::is_good(known) {
         return framed(packet);
     }
-    unframed(Reason::SetNotGood, 0)
+    refused(Reason::SetNotGood, 0, 0)
 }
 
 // Whether a receiver accepts a packet: document 01's refusals in their order, but for 2.
-pub fn check(packet: &[u8], known: TagSet) -> Checked
-    ensures { check_said result ≡ checked known packet.now }
+pub fn check(packet: &[u8], known: TagSet) -> Result<Accepted, Refusal>
+    ensures { answer_said result ≡ checked known packet.now }
 {
-    match begun(packet, known) {
-        Frame::Refused(refusal) => Checked::Refused(refusal),
-        Frame::From(from) => {
-            let mut places = [0u16; 128];
-            check_from(packet, from, known, &mut places)
-        }
-    }
+    let from = begun(packet, known)?;
+    let mut places = [0u16; 128];
+    check_from(packet, from, known, &mut places)
 }
 
-// The answer, and where an accepted packet's values are found: for each tag below 128 the place past its last item, of an extended height the
-// place of its value, 0 where there is none or it is withdrawn; at 0 that of the tags from 128 on.
+// An accepted packet, and where its values are found: for each tag below 128 the place past its last item, of an extended height the place of its
+// value, 0 where there is none or it is withdrawn; at 0 that of the tags from 128 on.
 #[derive(Clone, Copy)]
 pub struct Located {
-    pub answer: Checked,
+    pub accepted: Accepted,
     pub places: [u16; 128],
 }
 
-// The same, with the places at which the values are found; after a refusal there are none.
-pub fn locate(packet: &[u8], known: TagSet) -> Located
-    ensures { Locates known packet.now result }
+// The same, with the places at which the values are found. Inlined always: a call would copy the places into its caller's frame.
+#[inline(always)]
+pub fn locate(packet: &[u8], known: TagSet) -> Result<Located, Refusal>
+    ensures { answer_said result ≡ located known packet.now }
 {
+    let from = begun(packet, known)?;
     let mut places = [0u16; 128];
-    match begun(packet, known) {
-        Frame::Refused(refusal) => Located {
-            answer: Checked::Refused(refusal),
-            places,
-        },
-        Frame::From(from) => {
-            let answer = check_from(packet, from, known, &mut places);
-            match answer {
-                Checked::Accepted(_) => Located { answer, places },
-                Checked::Refused(_) => Located {
-                    answer,
-                    places: [0u16; 128],
-                },
-            }
-        }
-    }
+    let found = check_from(packet, from, known, &mut places);
+    let accepted = found?;
+    Ok(Located { accepted, places })
 }

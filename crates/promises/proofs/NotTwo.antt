@@ -18,8 +18,6 @@ use Rattle.tagset.specs.Sets.{holds}
 use Rattle.tagset.specs.declared.TagSet.{TagSet}
 use Rattle.catalogue.specs.Shapes.{shape_of, size_allowed, code_allowed}
 use Rattle.catalogue.specs.declared.Item as catalogue
-use Rattle.catalogue.specs.declared.Found.{Found}
-use Rattle.catalogue.specs.declared.Found.TheVariants.{Known, Absent}
 use Rattle.knowing.specs.Good.{good}
 use Rattle.catalogue.specs.Extended.{is_extended, in_reach}
 use Rattle.catalogue.specs.Shapes.{length_allowed}
@@ -39,12 +37,11 @@ use Rattle.packet.specs.Encode.{encode}
 use Rattle.rows.specs.Present.{present_in}
 use Rattle.packet.specs.Rows.{rows_in, pieces_of, lent_verdict, read_answer}
 use Rattle.outgoing.specs.Outgoing.{right_rows, agrees, by_row, sendable, outgoing_with, outgoing}
-use Rattle.outgoing.specs.declared.Handed.{Handed}
-use Rattle.outgoing.specs.declared.Handed.TheVariants.{Nothing}
 use Rattle.writer.specs.Writes.{written_with, write_answer_with, written, write_answer}
 use Rattle.relay.specs.Forwards.{own_table, forward_answer}
 use Rattle.ground.specs.Ground.{from_rows}
 use Rattle.listing.specs.Lists.{text_answer}
+use Rattle.std.specs.Prelude.{Option, Some, None}
 
 -- an answer that is no refusal numbered 2
 pub data NotTwo {A : Type 0} : Answer A → Type 0 where
@@ -167,7 +164,7 @@ unfolding sendable judge
 sendable_not K cs =
     by_then (by_test (ltb 8192 (length (encode cs))) (other refl) gives) (λ _. by_then (ends_not _) (λ _. by_then (judge_not K [] cs) (λ _. gives)))
 
-module _ (K : TagSet) (h : Handed) (count : ℕ) (words b o : List ℕ) where
+module _ (K : TagSet) (h : Option TagSet) (count : ℕ) (words b o : List ℕ) where
   -- 1, 16 and 22
   outgoing_not : NotTwo (outgoing_with K h count words b)
   outgoing_not =
@@ -183,17 +180,17 @@ module _ (K : TagSet) (h : Handed) (count : ℕ) (words b o : List ℕ) where
 
 pub write_not : (K : TagSet) (count : ℕ) (words b o : List ℕ) → NotTwo (write_answer K count words b o)
 unfolding write_answer write_answer_with written written_with outgoing
-write_not K count words b o = handed_not K Nothing count words b o
+write_not K count words b o = handed_not K None count words b o
 
 pub forward_not : (K : TagSet) (p o : List ℕ) → NotTwo (forward_answer K p o)
 unfolding forward_answer
 forward_not K p o = by_then (read_not K p own_table (omega arith)) (λ done. write_not K done.count _ p o)
 
 -- 19 and 20 or 21
-converted_not : {A : Type 0} (n tag : ℕ) (test : catalogue.Item → Bool) (give : catalogue.Item → A) (f : Found) → eqb n 2 ≡ false
+converted_not : {A : Type 0} (n tag : ℕ) (test : catalogue.Item → Bool) (give : catalogue.Item → A) (f : Option catalogue.Item) → eqb n 2 ≡ false
     → NotTwo (converted n tag test give f)
-converted_not n tag test give (Known i) h = by_test (test i) gives (other h)
-converted_not n tag test give Absent h = other refl
+converted_not n tag test give (Some i) h = by_test (test i) gives (other h)
+converted_not n tag test give None h = other refl
 
 length_not : {A : Type 0} (k tag n : ℕ) (test : Bool) (give : A) → eqb k 2 ≡ false → NotTwo (by_length k tag n test give)
 length_not k tag n test give e = by_test (length_allowed tag n) (by_test test gives (other e)) (other refl)

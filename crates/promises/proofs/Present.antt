@@ -7,7 +7,7 @@ use mathlib.Core.Path.{◌≡◌, ap, ap₂, sym, ◌∙◌}
 use mathlib.Core.Bool.{◌&&◌, not}
 use mathlib.Core.List.{List}
 use lib.ListN.{length, take}
-use Rattle.refusal.specs.Answer.{given, map}
+use Rattle.refusal.specs.Answer.{given, map, answer_said}
 use Rattle.refusal.proofs.Answers.{map_given, given_same, then_given}
 use Rattle.number.specs.Stored.{Bytes}
 use Rattle.tagset.specs.Sets.{holds, size}
@@ -15,27 +15,23 @@ use Rattle.tagset.specs.declared.TagSet.{TagSet}
 use Rattle.rows.specs.Present.{is_present, is_withdrawn, has_value, present_in, withdrawn_in, scanned, rows_with}
 use Rattle.packet.specs.Pieces.{Piece}
 use Rattle.packet.specs.Verdict.{body_of, received, checked}
-use Rattle.packet.specs.Said.{check_said}
 use Rattle.packet.specs.Rows.{Filled, rows_in, rows_of, SameTable}
 use Rattle.packet.specs.declared.Accepted.{Accepted}
-use Rattle.packet.specs.declared.Checked.TheVariants as check
 use Rattle.laws.proofs.Tables.{HasRead, has_read, read_count, rows_in_table}
 use Rattle.laws.proofs.Counted.{accepted_scanned, accepted_withdrawn, accepted_valued, accepted_counted, accepted_withdrawn_counted}
-use Rattle.reader.specs.Reads.{Reads, read_said}
-use Rattle.reader.specs.declared.Reading.{Reading}
-use Rattle.reader.specs.declared.Reading.TheVariants as read
-use Rattle.outgoing.specs.declared.Handed.TheVariants.{Words}
+use Rattle.reader.specs.Reads.{Reads}
 use Rattle.outgoing.specs.Outgoing.{outgoing}
 use Rattle.outgoing.proofs.Present.{sent_scanned, sent_counted}
 use Rattle.writer.specs.Writes.{written_with, written_by, output_by, written, roomy, write_answer_with, write_output_with, write_answer, write_output}
 use Rattle.writer.specs.Writes.{WritesWith, Writes}
 use Rattle.writer.specs.declared.Written.{Written}
-use Rattle.writer.specs.declared.Writing.TheVariants as write
 use Rattle.writer.proofs.Handed.{handed_given}
 use Rattle.promises.proofs.Demands.{written_reads_back}
+use Rattle.std.specs.Prelude.{Result, Ok, Some}
+use Rattle.refusal.specs.declared.Refusal.{Refusal}
 
 -- a packet that was read: the words answer as a scan of the table's rows does, and have as many bits as rows are not carried, or withdrawn
-module _ {K : TagSet} {p t t' : List ℕ} {done : Filled} (c : Reads K p t (read.Rows done) t') where
+module _ {K : TagSet} {p t t' : List ℕ} {done : Filled} (c : Reads K p t (Ok done) t') where
   has : HasRead K p t done
   has = has_read K p t done (sym c.answer)
 
@@ -78,7 +74,7 @@ module _ {K : TagSet} {p t t' : List ℕ} {done : Filled} (c : Reads K p t (read
         ∙ (accepted_valued (holds K) p has.items by has.accepted tag ∙ ap (scanned has_value tag) (sym rows))
 
   -- and who only checks it has the same words
-  module _ (b : Accepted) (e : check_said (check.Accepted b) ≡ checked K p) where
+  module _ (b : Accepted) (e : answer_said (Ok b) ≡ checked K p) where
     body : body_of (holds K) has.items ≡ b
     unfolding checked received
     body =
@@ -93,25 +89,25 @@ module _ {K : TagSet} {p t t' : List ℕ} {done : Filled} (c : Reads K p t (read
     check_withdrawn = ap (λ a. a.withdrawn) (sym body) ∙ sym withdrawn
 
 -- rows that were written with their words: the words are those that a scan gives, and it is what the plain writer would have written
-module _ {K s : TagSet} {count : ℕ} {words b o o' : List ℕ} {w : Written} (c : WritesWith K (Words s) count words b o (write.Packet w) o') where
+module _ {K s : TagSet} {count : ℕ} {words b o o' : List ℕ} {w : Written} (c : WritesWith K (Some s) count words b o (Ok w) o') where
   record Agreed : Type 0 where
     cs : List Piece
     plain : written K count words b (length o) ≡ given cs
-    with_words : written_with K (Words s) count words b (length o) ≡ given cs
+    with_words : written_with K (Some s) count words b (length o) ≡ given cs
     bytes : written_by cs ≡ w
     same : s ≡ present_in (rows_in 0 count words)
 
   agreed : Agreed
   unfolding write_answer_with
   agreed =
-      let f = map_given written_by (written_with K (Words s) count words b (length o)) (sym c.answer) in
+      let f = map_given written_by (written_with K (Some s) count words b (length o)) (sym c.answer) in
       let g = handed_given K count words b (length o) s f.0 f.1 in
       record { cs = f.0; plain = g.0; with_words = f.1; bytes = f.2; same = g.1 }
 
   pub written_words : s ≡ present_in (rows_in 0 count words)
   written_words = agreed.same
 
-  pub written_plainly : Writes K count words b o (write.Packet w) o'
+  pub written_plainly : Writes K count words b o (Ok w) o'
   unfolding write_answer write_output write_output_with
   written_plainly =
       record {
@@ -130,8 +126,8 @@ module _ {K s : TagSet} {count : ℕ} {words b o o' : List ℕ} {w : Written} (c
   written_counted = ap size written_words ∙ (sent_counted K count words b goes.0 goes.1)
 
   -- so what was written with its words reads back with them
-  pub written_with_reads_back : {t t' : List ℕ} {r : Reading} → 512 ≤ length t → Reads K (take w.size o') t r t'
-      → (read_said r ≡ given (record { count = count; present = s; withdrawn = withdrawn_in (rows_in 0 count words) }))
+  pub written_with_reads_back : {t t' : List ℕ} {r : Result Filled Refusal} → 512 ≤ length t → Reads K (take w.size o') t r t'
+      → (answer_said r ≡ given (record { count = count; present = s; withdrawn = withdrawn_in (rows_in 0 count words) }))
       × SameTable b (take w.size o') (rows_in 0 count words) (rows_in 0 count t')
   written_with_reads_back long d =
       let s = written_reads_back written_plainly long d in

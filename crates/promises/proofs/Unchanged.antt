@@ -14,11 +14,10 @@ use Rattle.tagset.specs.Sets.{holds}
 use Rattle.tagset.specs.declared.TagSet.{TagSet}
 use Rattle.packet.specs.Rows.{Filled, filled_by, lent_verdict, read_answer, table_by, read_table}
 use Rattle.outgoing.specs.Outgoing.{outgoing}
-use Rattle.outgoing.specs.declared.Handed.{Handed}
-use Rattle.outgoing.specs.declared.Handed.TheVariants.{Nothing}
 use Rattle.writer.specs.Writes.{written_with, written_by, output_by, write_answer_with, write_output_with, written, write_answer, write_output}
 use Rattle.relay.specs.Forwards.{own_table, forward_answer, forward_output}
 use Rattle.listing.specs.Lists.{text_answer}
+use Rattle.std.specs.Prelude.{Option, None}
 
 module _ (n a u : ℕ) (K : TagSet) where
   pub table_stays : (p t : List ℕ) → read_answer K p t ≡ refused n a u → read_table K p t ≡ t
@@ -26,14 +25,14 @@ module _ (n a u : ℕ) (K : TagSet) where
   table_stays p t e = ap (table_by (holds K) t) (map_refused (filled_by (holds K)) (lent_verdict K p t) n a u e)
 
   -- whatever the writer is handed
-  pub handed_stays : (h : Handed) (count : ℕ) (words b o : List ℕ) → write_answer_with K h count words b o ≡ refused n a u
+  pub handed_stays : (h : Option TagSet) (count : ℕ) (words b o : List ℕ) → write_answer_with K h count words b o ≡ refused n a u
       → write_output_with K h count words b o ≡ o
   unfolding write_answer_with write_output_with
   handed_stays h count words b o e = ap (output_by o) (map_refused written_by (written_with K h count words b (length o)) n a u e)
 
   pub output_stays : (count : ℕ) (words b o : List ℕ) → write_answer K count words b o ≡ refused n a u → write_output K count words b o ≡ o
   unfolding write_answer write_output write_answer_with write_output_with written written_with outgoing
-  output_stays count words b o e = handed_stays Nothing count words b o e
+  output_stays count words b o e = handed_stays None count words b o e
 
   pub forward_stays : (p o : List ℕ) → forward_answer K p o ≡ refused n a u → forward_output K p o ≡ o
   unfolding forward_answer forward_output

@@ -2,13 +2,13 @@
 -- Assumes nothing.
 use Prim.Native.Nat.{ℕ, suc, ◌+◌, ◌-◌, ◌*◌, ◌<◌, ◌≤◌}
 use native.Mathlib.Omega.{arith}
-use native.Mathlib.Numerals.{add-one}
 use native.Mathlib.Nat.{add-zero}
 use mathlib.Core.Path.{◌≡◌, refl, ap, sym, ◌∙◌}
 use mathlib.Core.Bool.{Bool, true, false}
 use mathlib.Core.List.{List, [], ◌∷◌, ◌++◌, append_assoc}
 use lib.ListN.{length, get_or, set, take, drop, replicate, length-append, length-replicate, length-take, length-drop}
-use lib.Seq.{sets, sets-eq}
+use lib.Seq.{sets, sets-eq, length-sets, drop-drop, length-take-le}
+use borrow.Rule.Slice.PartMut.{mid_of, put_mid}
 use Rattle.base.proofs.Cases.{by_lt, clash}
 use Rattle.number.specs.Stored.{Bytes}
 use Rattle.tagset.specs.Sets.{holds}
@@ -21,17 +21,6 @@ use Rattle.packet.specs.Rows.{RowWords, shape_for, row_of, rows_of, words, table
 use Rattle.packet.specs.declared.Header.{Header}
 use Rattle.reader.specs.code.Filling.{put_row}
 
--- one store, then the rest of a run of zeros to word e
-pub clear_more : (t : List ℕ) (k e : ℕ) → k < e → sets (set t k 0) (k + 1) (replicate (e - (k + 1)) 0) ≡ sets t k (replicate (e - k) 0)
-clear_more t k e h =
-    let one : e - k ≡ suc (e - (k + 1)) = omega arith in
-    rw (one, add-one)
-
-pub clear_none : (t : List ℕ) (k e : ℕ) → e ≤ k → sets t k (replicate (e - k) 0) ≡ t
-clear_none t k e h =
-    let none : e - k ≡ 0 = omega arith in
-    rw none
-
 -- the four stores of a row
 pub row_stored : (t : List ℕ) (n : ℕ) (r : RowWords)
     → set (set (set (set t (4 * n) r.tag) (4 * n + 1) r.kind) (4 * n + 2) r.code) (4 * n + 3) r.part ≡ put_row t n r
@@ -41,6 +30,18 @@ row_stored t n r =
     let e2 : w + 2 ≡ suc (suc w) = omega arith in
     let e3 : w + 3 ≡ suc (suc (suc w)) = omega arith in
     rw (e1, e2, e3)
+
+-- a part of the table lent and filled with other words
+part_set : (t : List ℕ) (at n : ℕ) (ws : List ℕ) → at + n ≤ length t → length ws ≡ n → put_mid at n t ws ≡ sets t at ws
+part_set t at n ws h e = rw (drop-drop n at t, sets-eq ws t at (omega arith), e, append_assoc)
+
+-- with zeros
+zeros_set : (t : List ℕ) (at end : ℕ) (ws : List ℕ) → at ≤ end → end ≤ length t → ws ≡ replicate (length (mid_of at (end - at) t)) 0
+    → put_mid at (end - at) t ws ≡ sets t at (replicate (end - at) 0)
+zeros_set t at end ws h k e =
+    let size : length (mid_of at (end - at) t) ≡ end - at = length-take-le (end - at) (drop at t) (rw length-drop (omega arith)) in
+    let zeros : ws ≡ replicate (end - at) 0 = rw size at e in
+    rw zeros (part_set t at (end - at) (replicate (end - at) 0) (omega arith) (length-replicate (end - at) 0))
 
 -- a row, then those of the rest
 pub row_more : (K : ℕ → Bool) (t : List ℕ) (n : ℕ) (i : Item) (is : List Item)
@@ -62,7 +63,7 @@ sets_append (x ∷ xs) ys l i =
     rw e (sets_append xs ys (set l i x) (suc i))
 
 -- the rows stored, and then zeros to 512: the table
-pub table_is : (K : ℕ → Bool) (is : List Item) (t : List ℕ) → length is ≤ 128 → 512 ≤ length t
+table_is : (K : ℕ → Bool) (is : List Item) (t : List ℕ) → length is ≤ 128 → 512 ≤ length t
     → sets (sets t 0 (words (rows_of K is))) (4 * length is) (replicate (512 - 4 * length is) 0) ≡ table_of K is t
 unfolding table_of
 table_is K is t few room =
@@ -75,6 +76,14 @@ table_is K is t few room =
     ∙ (sets-eq (rs ++ zs) t 0 (omega arith)
     ∙ (ap (λ k. rs ++ zs ++ drop k t) whole
     ∙ append_assoc rs zs (drop 512 t))))
+
+pub filled : (K : ℕ → Bool) (is : List Item) (t : List ℕ) {t' zs : List ℕ} {n : ℕ} → n ≡ length is → n ≤ 128 → 512 ≤ length t
+    → t' ≡ sets t 0 (words (rows_of K is)) → zs ≡ replicate (length (mid_of (4 * n) (512 - 4 * n) t')) 0
+    → put_mid (4 * n) (512 - 4 * n) t' zs ≡ table_of K is t
+filled K is t {t'} {zs} {n} count few room e z =
+    let size : length t' ≡ length t = ap length e ∙ length-sets t 0 (words (rows_of K is)) in
+    zeros_set t' (4 * n) 512 zs (omega arith) (omega arith) z
+    ∙ rw (e, count) (table_is K is t (rw (← count) few) room)
 
 -- the value as it stands
 module _ (p : List ℕ) (by : Bytes p) (i : Header) (inside : i.place + i.size ≤ length p) where

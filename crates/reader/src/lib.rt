@@ -2,39 +2,21 @@
 // An accepted packet fills the table with its rows and zeros up to word 512; a refusal leaves every word.
 #![tactic(auto)]
 
-ghost use Rattle.std.specs.Prelude.{◌≡◌, ◌+◌, ◌-◌, ◌*◌, ◌/◌, ◌^◌, ◌<◌, ◌≤◌, length, replicate};
-ghost use lib.Seq.{sets};
-ghost use Rattle.refusal.specs.Numbers.{number};
-ghost use Rattle.refusal.specs.Answer.{refused as refusedBy};
+ghost use Rattle.std.specs.Prelude.{◌≡◌, ◌+◌, ◌-◌, ◌*◌, ◌/◌, ◌^◌, ◌<◌, ◌≤◌, length};
 ghost use Rattle.tagset.specs.Sets.{holds};
 ghost use Rattle.refusal.specs.Answer.{given};
-ghost use Rattle.catalogue.specs.code.Column.{shape_column, shape_byte};
+ghost use Rattle.catalogue.specs.code.Column.{shape_byte};
 ghost use Rattle.packet.specs.Said.{header_at};
 ghost use Rattle.packet.specs.code.Headers.{item_by};
-ghost use Rattle.packet.specs.Rows.{shape_for, row_of, rows_of, words};
-ghost use Rattle.reader.specs.Reads.{Reads, read_said};
+ghost use Rattle.packet.specs.Rows.{shape_for, row_of, table_of};
+ghost use Rattle.reader.specs.Reads.{Reads};
 ghost use Rattle.reader.specs.code.Filling.{ItemAt, top_of, kind_by, put_row, Narrow, AcceptsFrom, items_of};
 
-use packet::{Checked, Header, Step};
-use refusal::{Reason, Refusal};
+use catalogue::ShapeColumn;
+use packet::Header;
+use refusal::{Reason, Refusal, refused};
 use rows::{Filled, RowWords};
 use tagset::TagSet;
-
-#[derive(Clone, Copy)]
-pub enum Reading {
-    Rows(Filled),
-    Refused(Refusal),
-}
-
-fn refused(reason: Reason) -> Reading
-    ensures { read_said result ≡ refusedBy (number reason) 0 0 }
-{
-    Reading::Refused(Refusal {
-        reason,
-        place: 0,
-        tag: 0,
-    })
-}
 
 // Any item of an accepted packet.
 fn any_header_at(packet: &[u8], at: usize) -> Header
@@ -42,8 +24,8 @@ fn any_header_at(packet: &[u8], at: usize) -> Header
     ensures { header_at packet.now at ≡ given result }
 {
     match packet::item_at(packet, at) {
-        Step::Item(item) => item,
-        Step::Refused(_) => Header {
+        Ok(item) => item,
+        Err(_) => Header {
             tag: 0,
             start: at,
             place: at,
@@ -62,21 +44,19 @@ fn header_at(packet: &[u8], at: usize) -> Header
         return any_header_at(packet, at);
     }
     Header {
-        tag: number::wide(packet[at]),
+        tag: u64::from(packet[at]),
         start: at,
         place: after + 1,
-        size: packet[after] as usize,
+        size: usize::from(packet[after]),
     }
 }
 
 // The byte of a tag's shape, as a receiver sees it: it carries what it does not know.
-fn byte_for(column: &[u8; 128], known: TagSet, tag: u64) -> u64
-    requires { column.now ≡ shape_column }
+fn byte_for(shapes: &ShapeColumn, known: TagSet, tag: u64) -> u64
     ensures { result ≡ shape_byte (shape_for (holds known) tag) }
 {
     if tagset::has(known, tag) {
-        let at = tag as usize;
-        return number::wide(column[at]);
+        return u64::from(shapes.column[tag as usize]);
     }
     0x40
 }
@@ -100,7 +80,7 @@ fn lowest(top: u64, width: u64) -> u64
 }
 
 // The kind by a shape's byte: a mark has the number after a reading's. A code at the top is the mark where only the top bit is set; what has no bytes
-// is withdrawn, if it is known.
+// is withdrawn, if it is known. Kinds are words of the table, which the C interface lends.
 fn kind_by(byte: u64, size: u64, top: u64) -> u64
     requires { byte < 256 }
     ensures { result ≡ kind_by byte size top }
@@ -120,13 +100,13 @@ fn kind_by(byte: u64, size: u64, top: u64) -> u64
 
 // The row of an item. The eight bytes that end with its value are there, for it stands past the key; of them a number has as many as its length,
 // which lies within the mask, and text and carried bytes have none.
-fn row_of(packet: &[u8], column: &[u8; 128], known: TagSet, item: Header) -> RowWords
-    requires { (column.now ≡ shape_column) × (item.place + item.size ≤ length packet.now) × (length packet.now ≤ 8192)
+fn row_of(packet: &[u8], shapes: &ShapeColumn, known: TagSet, item: Header) -> RowWords
+    requires { (item.place + item.size ≤ length packet.now) × (length packet.now ≤ 8192)
         × Narrow (shape_for (holds known) item.tag) item.size × (8 ≤ item.place + item.size) }
     ensures { result ≡ row_of (holds known) (item_by packet.now item) }
 {
     let end = item.place + item.size;
-    let byte = byte_for(column, known, item.tag);
+    let byte = byte_for(shapes, known, item.tag);
     let place = item.place as u64;
     let size = item.size as u64;
     let width = size & (byte % 16);
@@ -139,7 +119,7 @@ fn row_of(packet: &[u8], column: &[u8; 128], known: TagSet, item: Header) -> Row
     }
 }
 
-// A row's four words, at its place in the table.
+// A row's four words, at its place in the table. One by one: by copy_from_slice a full packet is read with a tenth more instructions.
 fn put_row(table: &mut [u64], n: usize, row: RowWords)
     requires { (n < 128) × (4 * n + 4 ≤ length table.old) }
     ensures { table.new ≡ put_row table.old n row }
@@ -151,59 +131,38 @@ fn put_row(table: &mut [u64], n: usize, row: RowWords)
     table[at + 3] = row.part;
 }
 
-// Zeros from a word up to word 512.
-fn clear(table: &mut [u64], from: usize)
-    requires { 512 ≤ length table.old }
-    ensures { table.new ≡ sets table.old from (replicate (512 - from) 0) }
+// The rows of an accepted packet, so many from a place on, one after another; then zeros up to word 512.
+fn fill(packet: &[u8], from: usize, count: usize, known: TagSet, table: &mut [u64])
+    requires { AcceptsFrom known packet.now from count × (count ≤ 128) × (512 ≤ length table.old) }
+    ensures { table.new ≡ table_of (holds known) (items_of known packet.now) table.old }
 {
-    let mut k = from;
-    while k < 512 {
-        table[k] = 0;
-        k += 1;
-    }
-}
-
-// The rows of an accepted packet, one after another.
-fn fill(packet: &[u8], from: usize, known: TagSet, table: &mut [u64])
-    requires { AcceptsFrom known packet.now from × (512 ≤ length table.old) }
-    ensures { table.new ≡ sets table.old 0 (words (rows_of (holds known) (items_of known packet.now))) }
-{
-    let column = catalogue::shapes();
+    let shapes = catalogue::shapes();
     let mut here = from;
-    let mut n: usize = 0;
-    while here < packet.len() {
+    for n in 0..count {
         let item = header_at(packet, here);
-        let row = row_of(packet, &column, known, item);
-        put_row(table, n, row);
+        put_row(table, n, row_of(packet, &shapes, known, item));
         here = item.place + item.size;
-        n += 1;
     }
+    table[4 * count..512].fill(0);
 }
 
 // Reads a packet into a table of at least 512 words: rows, then zeros up to word 512. A refusal leaves every word as it was.
-pub fn read(packet: &[u8], known: TagSet, table: &mut [u64]) -> Reading
+pub fn read(packet: &[u8], known: TagSet, table: &mut [u64]) -> Result<Filled, Refusal>
     ensures { Reads known packet.now table.old result table.new }
 {
-    if knowing::is_good(known) {
-        let short = table.len() < 512;
-        if short {
-            return refused(Reason::TableTooShort);
-        }
-        return match packet::check(packet, known) {
-            Checked::Refused(refusal) => Reading::Refused(refusal),
-            Checked::Accepted(accepted) => {
-                let count = accepted.count;
-                fill(packet, accepted.from, known, table);
-                clear(table, 4 * count);
-                let present = accepted.present;
-                let withdrawn = accepted.withdrawn;
-                Reading::Rows(Filled {
-                    count,
-                    present,
-                    withdrawn,
-                })
-            }
-        };
+    if !knowing::is_good(known) {
+        return refused(Reason::SetNotGood, 0, 0);
     }
-    refused(Reason::SetNotGood)
+    let short = table.len() < 512;
+    if short {
+        return refused(Reason::TableTooShort, 0, 0);
+    }
+    let accepted = packet::check(packet, known)?;
+    let count = accepted.count;
+    fill(packet, accepted.from, count, known, table);
+    Ok(Filled {
+        count,
+        present: accepted.present,
+        withdrawn: accepted.withdrawn,
+    })
 }

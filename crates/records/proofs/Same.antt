@@ -32,10 +32,12 @@ use Rattle.packet.specs.Rows.{rows_in, row_value, piece_of, pieces_of}
 use Rattle.outgoing.specs.Outgoing.{outgoing}
 use Rattle.outgoing.proofs.Stages.{good_all}
 use Rattle.rows.proofs.Laws.{count-good}
-use Rattle.writer.specs.declared.Writing.{Writing}
 use Rattle.writer.specs.Writes.{Writes, roomy, written, written_by, output_by, write_answer, write_output}
 use Rattle.records.specs.Images.{width_by, width_of, says_for, row_with, row_saying, image_of, none, put_image, images_into, fitting, image_table}
 use Rattle.records.specs.TakenOut.{Words, TakenOut, taken, taken_from}
+use Rattle.std.specs.Prelude.{Result}
+use Rattle.refusal.specs.declared.Refusal.{Refusal}
+use Rattle.writer.specs.declared.Written.{Written}
 
 -- a row with another fourth word
 abbrev with_part : RowWords → ℕ → RowWords
@@ -283,7 +285,7 @@ unfolding row_at
 spot_fits w h k = h.word (4 * k + 3)
 
 -- what is written settles the outcome
-written_alike : (K : TagSet) (n : ℕ) (t u b o o' : List ℕ) (z : Writing) → written K n t b (length o) ≡ written K n u b (length o)
+written_alike : (K : TagSet) (n : ℕ) (t u b o o' : List ℕ) (z : Result Written Refusal) → written K n t b (length o) ≡ written K n u b (length o)
     → Writes K n t b o z o' → Writes K n u b o z o'
 unfolding write_answer write_output
 written_alike K n t u b o o' z s e = record { answer = e.answer ∙ ap (map written_by) s; output = e.output ∙ ap (output_by o) s }
@@ -325,10 +327,10 @@ module _ (K : TagSet) (w b : List ℕ) (rs : List Row) (h : Words w) (p : TakenO
   records_written room = ap (λ a. then a (roomy room)) outgoing_same
 
   -- so one contract holds of an outcome where the other does
-  pub records_then_words : (o o' : List ℕ) (z : Writing) → Writes K (length rs) (image_table rs) b o z o' → Writes K (length rs) w b o z o'
+  pub records_then_words : (o o' : List ℕ) (z : Result Written Refusal) → Writes K (length rs) (image_table rs) b o z o' → Writes K (length rs) w b o z o'
   records_then_words o o' z = written_alike K (length rs) (image_table rs) w b o o' z (records_written (length o))
 
-  pub words_then_records : (o o' : List ℕ) (z : Writing) → Writes K (length rs) w b o z o' → Writes K (length rs) (image_table rs) b o z o'
+  pub words_then_records : (o o' : List ℕ) (z : Result Written Refusal) → Writes K (length rs) w b o z o' → Writes K (length rs) (image_table rs) b o z o'
   words_then_records o o' z = written_alike K (length rs) w (image_table rs) b o o' z (sym (records_written (length o)))
 
 -- ---- good rows are taken out

@@ -2,56 +2,27 @@
 // What it answers and writes is the word writer's on the records' images.
 #![tactic(auto)]
 
-ghost use Rattle.std.specs.Prelude.{◌≡◌, ◌<◌, ◌≤◌, length, get_or, replicate};
+ghost use Rattle.std.specs.Prelude.{◌≡◌, ◌<◌, ◌≤◌, length};
 ghost use Rattle.writer.specs.Writes.{Writes};
 ghost use Rattle.rows.specs.Meaning.{mark_code};
-ghost use Rattle.records.specs.Images.{width_of, row_with, image_of, none, put_image, images_into, fitting, image_table};
+ghost use Rattle.records.specs.Images.{width_of, row_with, image_of, put_image, image_table};
 
-use catalogue::Found;
+use refusal::Refusal;
 use rows::{Content, Part, Row, RowWords};
 use tagset::TagSet;
-use writer::Writing;
-
-fn count(records: &[Row]) -> usize
-    ensures { result ≡ length records.now }
-{
-    records.len()
-}
-
-fn record_at(records: &[Row], i: usize) -> Row
-    requires { i < length records.now }
-    ensures { result ≡ get_or records.now i none }
-{
-    records[i]
-}
-
-// How many records have room in the table.
-fn fitting_of(count: usize) -> usize
-    ensures { result ≡ fitting count }
-{
-    if count < 128 {
-        return count;
-    }
-    128
-}
-
-fn blank() -> [u64; 512]
-    ensures { result ≡ replicate 512 0 }
-{
-    [0; 512]
-}
+use writer::Written;
 
 // The catalogue's one length for a tag, 0 where it has none or more.
 fn width_of(tag: u64) -> usize
     ensures { result ≡ width_of tag }
 {
     match items::item_of(tag) {
-        Found::Known(item) => item.width,
-        Found::Absent => 0,
+        Some(item) => item.width,
+        None => 0,
     }
 }
 
-// The code of so many bytes with only the top bit set.
+// The code of so many bytes with only the top bit set; `rows` only asks whether a code is one.
 fn mark_code(width: usize) -> u64
     requires { width ≤ 8 }
     ensures { result ≡ mark_code width }
@@ -62,7 +33,7 @@ fn mark_code(width: usize) -> u64
     1 << (8 * width - 1)
 }
 
-// The kind of a row whose place and length a word cannot hold: the writer refuses it.
+// The kind of a row whose place and length a word cannot hold: a word of the table, which the writer refuses by its number.
 const NO_KIND: u64 = 0;
 
 // The four words of a kind and a code, and of where the bytes stand.
@@ -71,15 +42,13 @@ fn row_with(tag: u64, kind: u64, code: u64, part: Part) -> RowWords
 {
     let place = part.place;
     let length = part.length;
-    if place < 281_474_976_710_656 {
-        if length < 65536 {
-            return RowWords {
-                tag,
-                kind,
-                code,
-                part: place as u64 * 65536 + length as u64,
-            };
-        }
+    if place < 281_474_976_710_656 && length < 65536 {
+        return RowWords {
+            tag,
+            kind,
+            code,
+            part: place as u64 * 65536 + length as u64,
+        };
     }
     RowWords {
         tag,
@@ -89,7 +58,7 @@ fn row_with(tag: u64, kind: u64, code: u64, part: Part) -> RowWords
     }
 }
 
-// The four words of a record.
+// The four words of a record. No `From`, since both types are of another crate.
 fn image_of(row: Row) -> RowWords
     ensures { result ≡ image_of row }
 {
@@ -117,60 +86,46 @@ fn image_of(row: Row) -> RowWords
     }
 }
 
-// The table with a record's words as row n.
-fn put_record(table: [u64; 512], n: usize, row: Row) -> [u64; 512]
+// A record's words as row n of the table.
+fn put_record(table: &mut [u64; 512], n: usize, row: Row)
     requires { n < 128 }
-    ensures { result ≡ put_image table n (image_of row) }
+    ensures { table.new ≡ put_image table.old n (image_of row) }
 {
     let words = image_of(row);
-    let mut t = table;
-    t[4 * n] = words.tag;
-    t[4 * n + 1] = words.kind;
-    t[4 * n + 2] = words.code;
-    t[4 * n + 3] = words.part;
-    t
+    table[4 * n..4 * n + 4].copy_from_slice(&[words.tag, words.kind, words.code, words.part]);
 }
 
-// The words of the first n records, and zeros after them.
-fn table_of(records: &[Row], n: usize) -> [u64; 512]
-    requires { (n ≤ 128) × (n ≤ length records.now) }
-    ensures { result ≡ images_into n records.now (replicate 512 0) }
+// The words of as many records as have room, and zeros after them.
+fn table_of(records: &[Row]) -> [u64; 512]
+    ensures { result ≡ image_table records.now }
 {
-    let mut t = blank();
-    let mut i = 0;
-    while i < n {
-        let next = put_record(t, i, record_at(records, i));
-        t = next;
-        i = i + 1;
+    let mut table = [0; 512];
+    for n in 0..records.len().min(128) {
+        put_record(&mut table, n, records[n]);
     }
-    t
-}
-
-fn write_table(
-    known: TagSet,
-    count: usize,
-    table: [u64; 512],
-    buffer: &[u8],
-    out: &mut [u8],
-) -> Writing
-    ensures { Writes known count table buffer.now out.old result out.new }
-{
-    writer::write(known, count, &table, buffer, out)
+    table
 }
 
 // Writes the records as a packet, with the buffer that text and carried records point into.
-pub fn write_records(known: TagSet, records: &[Row], buffer: &[u8], out: &mut [u8]) -> Writing
+pub fn write_records(
+    known: TagSet,
+    records: &[Row],
+    buffer: &[u8],
+    out: &mut [u8],
+) -> Result<Written, Refusal>
     ensures { Writes known (length records.now) (image_table records.now)
         buffer.now out.old result out.new }
 {
-    let c = count(records);
-    let n = fitting_of(c);
-    let table = table_of(records, n);
-    write_table(known, c, table, buffer, out)
+    writer::write(known, records.len(), &table_of(records), buffer, out)
 }
 
 // The same for an array of three, whose callers lend no records themselves.
-pub fn write_three(known: TagSet, records: [Row; 3], buffer: &[u8], out: &mut [u8]) -> Writing
+pub fn write_three(
+    known: TagSet,
+    records: [Row; 3],
+    buffer: &[u8],
+    out: &mut [u8],
+) -> Result<Written, Refusal>
     ensures { Writes known (length records) (image_table records) buffer.now out.old result out.new }
 {
     write_records(known, &records, buffer, out)

@@ -1,14 +1,22 @@
 -- Answers one after another: what stands behind something given, and how maps and steps go together.
 -- Assumes nothing.
 use Prim.Native.Nat.{ℕ}
-use mathlib.Core.Path.{◌≡◌, refl}
+use mathlib.Core.Path.{◌≡◌, refl, ap}
 use mathlib.Core.Bool.{Bool, true, false, cond}
 use Rattle.base.proofs.Cases.{never}
-use Rattle.refusal.specs.Answer.{Answer, given, refused, map, then}
+use Rattle.std.specs.Prelude.{Result, Ok, Err, IsErrAnd}
+use Rattle.refusal.specs.Answer.{Answer, given, refused, refusal, map, then, answer_said}
+use Rattle.refusal.specs.declared.Refusal.{Refusal}
 
 -- a refusal gives nothing
 pub not_given {ℓ} : {C : Type ℓ} {A : Type 0} {x : A} {n p t : ℕ} → refused n p t ≡ given x → C
 not_given e = never (cc)
+
+-- a `?` hands a refusal on as it is
+pub handed_on : {A : Type 0} {Q : Refusal → Type 0} (a : Result A Refusal) (r : Refusal) → IsErrAnd a Q → ((s : Refusal) → Q s → s ≡ r)
+    → answer_said a ≡ refusal r
+handed_on (Ok x) r q same = elim q [ ]
+handed_on (Err s) r q same = ap refusal (same s q)
 
 pub given_same : {A : Type 0} {x y : A} → given x ≡ given y → x ≡ y
 given_same e = cc

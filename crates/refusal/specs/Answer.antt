@@ -1,5 +1,5 @@
 -- What an answer says in document 01's terms: the values that it gives, or the refusal's number, place and tag.
-use Rattle.std.specs.Prelude.{ℕ}
+use Rattle.std.specs.Prelude.{ℕ, Result, Ok, Err}
 use Rattle.refusal.specs.Numbers.{number}
 use Rattle.refusal.specs.declared.Refusal.{Refusal}
 
@@ -9,6 +9,11 @@ pub data Answer (A : Type 0) : Type 0 where
 
 abbrev pub refusal : {A : Type 0} → Refusal → Answer A
 refusal r = refused (number r.reason) r.place r.tag
+
+-- what a function's result says
+abbrev pub answer_said : {A : Type 0} → Result A Refusal → Answer A
+answer_said (Ok a) = given a
+answer_said (Err r) = refusal r
 
 -- what is given, turned into something else; a refusal is passed on
 abbrev pub map : {A B : Type 0} → (A → B) → Answer A → Answer B

@@ -5,22 +5,20 @@ use native.Mathlib.Omega.{arith}
 use mathlib.Core.Path.{◌≡◌, refl, ap, sym, ◌∙◌}
 use mathlib.Core.List.{List, [], ◌∷◌}
 use lib.ListN.{length, take, drop, length-append, length-take, length-drop}
-use Rattle.base.proofs.Cases.{never}
+use Rattle.base.proofs.Cases.{never, by_lt}
 use Rattle.base.proofs.Parts.{part_lent}
 use Rattle.base.specs.Putting.{put_into, Room, Wrote}
 use Rattle.base.proofs.Putting.{to_write, wrote_as, wrote_nothing}
-use Rattle.refusal.specs.Answer.{given}
+use Rattle.refusal.specs.Answer.{given, refused}
 use Rattle.number.specs.Stored.{Bytes}
 use Rattle.ber.specs.Written.{tag_bytes, length_bytes}
 use Rattle.packet.specs.Pieces.{Item, pieces}
 use Rattle.packet.specs.Structure.{structure, ItemsFrom}
 use Rattle.packet.specs.code.Headers.{item_by}
-use Rattle.packet.specs.Said.{header_at, step_said}
+use Rattle.packet.specs.Said.{header_at}
 use Rattle.packet.specs.Encode.{pieces_in, item_bytes, longer_by, longer_of, items_bytes, canonical}
 use Rattle.packet.specs.code.Passing.{longer_in}
 use Rattle.packet.specs.declared.Header.{Header}
-use Rattle.packet.specs.declared.Step.{Step}
-use Rattle.packet.specs.declared.Step.TheVariants as step
 use Rattle.packet.proofs.Walks.{Lies, header_lies}
 use Rattle.packet.proofs.Walked.{Walked, done, went, walked, header_start}
 use Rattle.laws.proofs.Structure.{structure_formed}
@@ -28,7 +26,7 @@ use Rattle.laws.proofs.Written.{length_item, length_encode}
 use Rattle.laws.proofs.Forward.{canonical_shorter}
 use Rattle.writer.proofs.Pieces.{piece_room, piece_put}
 use Rattle.relay.specs.code.Sends.{items_for, LongerBy}
-use Rattle.packet.proofs.Ahead.{Ahead, no_more, Next, next}
+use Rattle.packet.proofs.Ahead.{Ahead, no_more, not_refused, Next, next}
 
 -- the item that a header stands for, within the packet
 module _ (p : List ℕ) (i : Header) (inside : i.place + i.size ≤ length p) where
@@ -99,25 +97,27 @@ module _ (p : List ℕ) (from : ℕ) (f : ItemsFrom p from) where
   all_waiting h = record { ahead = all_ahead; rest = wrote_as (sym its_items) (to_write h) }
 
 -- an item that the code found
-module _ (p : List ℕ) (here : ℕ) {x : Step} (said : step_said x ≡ header_at p here) {i : Header} (is : x ≡ step.Item i) where
-  item_found : header_at p here ≡ given i
-  item_found = sym said ∙ ap step_said is
-
-  pub item_lies : Bytes p → Lies p here i
-  item_lies by = header_lies p here by i item_found
+pub item_lies : (p : List ℕ) (here : ℕ) {i : Header} → header_at p here ≡ given i → Bytes p → Lies p here i
+item_lies p here {i} e by = header_lies p here by i e
 
 -- item by item
 module _ (p : List ℕ) (here : ℕ) where
   module _ {o : List ℕ} {at end : ℕ} {x : List ℕ} (w : Waiting p here o at end x) where
-    pub put_done : length p ≤ here → (end ≡ at) × (x ≡ o)
+    none_ahead : (r b g : ℕ) → header_at p here ≡ refused r b g → w.ahead.items ≡ []
+    none_ahead r b g e = by_lt here (length p) (λ h. not_refused p here w.ahead h r b g e) (λ h. no_more p here w.ahead h)
+
+    pub put_done : {r b g : ℕ} → header_at p here ≡ refused r b g → (end ≡ at) × (x ≡ o)
     unfolding items_bytes
-    put_done h =
-        let e : items_bytes (pieces w.ahead.items) ≡ [] = ap (λ is. items_bytes (pieces is)) (no_more p here w.ahead h) in
+    put_done {r} {b} {g} f =
+        let e : items_bytes (pieces w.ahead.items) ≡ [] = ap (λ is. items_bytes (pieces is)) (none_ahead r b g f) in
         wrote_nothing (wrote_as e w.rest)
 
-    module _ (h : here < length p) {y : Step} (said : step_said y ≡ header_at p here) {i : Header} (is : y ≡ step.Item i) where
-      put_next : Next p here w.ahead h i
-      put_next = next p here w.ahead h i (item_found p here said is)
+    module _ {i : Header} (e : header_at p here ≡ given i) (by : Bytes p) where
+      inside : here < length p
+      inside = omega (arith, header_lies p here by i e)
+
+      put_next : Next p here w.ahead inside i
+      put_next = next p here w.ahead inside i e
 
       this : Wrote o at (items_bytes ((item_by p i).piece ∷ pieces put_next.ahead.items)) end x
       this = wrote_as (ap (λ is. items_bytes (pieces is)) put_next.items) w.rest

@@ -9,7 +9,7 @@ use lib.Dec.{ltb, leb}
 use borrow.Author.Tests.{le-leb}
 use Rattle.base.proofs.Cases.{by_bool}
 use Rattle.base.proofs.Every.{both_true}
-use Rattle.refusal.specs.Answer.{given, refused, map}
+use Rattle.refusal.specs.Answer.{given, refused, map, answer_said}
 use Rattle.refusal.proofs.Answers.{passed, map_given, map_refused}
 use Rattle.number.specs.Stored.{Bytes}
 use Rattle.tagset.specs.Sets.{holds}
@@ -34,11 +34,13 @@ use Rattle.reader.proofs.Laws.{words_length}
 use Rattle.outgoing.specs.Outgoing.{outgoing}
 use Rattle.outgoing.proofs.Given.{Sent, Outgoes, outgoes_given}
 use Rattle.writer.specs.Writes.{written, write_answer, write_output}
-use Rattle.relay.specs.Forwards.{Forwards, own_table, forward_answer, forward_output, forward_said}
+use Rattle.relay.specs.Forwards.{Forwards, own_table, forward_answer, forward_output}
 use Rattle.packet.specs.Structure.{ItemsFrom}
 use Rattle.relay.specs.code.Sends.{LongerBy, sent_answer, sent_output, Sends}
-use Rattle.relay.specs.declared.Forwarding.{Forwarding}
 use Rattle.relay.proofs.Items.{all_longer}
+use Rattle.std.specs.Prelude.{Result}
+use Rattle.refusal.specs.declared.Refusal.{Refusal}
+use Rattle.writer.specs.declared.Written.{Written}
 
 table_long : (K : Knowing) (is : List Item) (t : List ℕ) → 4 * length is ≤ length (table_of K is t)
 unfolding table_of
@@ -108,7 +110,7 @@ module _ (K : TagSet) (p : List ℕ) where
   unfolding lent_verdict received
   own_received = refl
 
-  pub forward_refused : (o : List ℕ) (n a u : ℕ) → checked K p ≡ refused n a u → (r : Forwarding) → forward_said r ≡ refused n a u → Forwards K p o r o
+  pub forward_refused : (o : List ℕ) (n a u : ℕ) → checked K p ≡ refused n a u → (r : Result Written Refusal) → answer_said r ≡ refused n a u → Forwards K p o r o
   unfolding checked read_answer forward_answer forward_output
   forward_refused o n a u e r s =
       let f : read_answer K p own_table ≡ refused n a u =
@@ -143,7 +145,7 @@ module _ (K : TagSet) (p : List ℕ) where
           let e : longer_of taken.0 ≡ b.longer = ap (λ (x : Accepted). x.longer) taken.2 in
           record { walks = items-from; sizes = rw (← e) (all_longer p b.from items-from by) }
 
-      pub forward_sent : (o : List ℕ) (r : Forwarding) (o' : List ℕ) → Sends (canonical p) o r o' → Forwards K p o r o'
+      pub forward_sent : (o : List ℕ) (r : Result Written Refusal) (o' : List ℕ) → Sends (canonical p) o r o' → Forwards K p o r o'
       unfolding read_answer
       forward_sent o r o' s =
           let f = forward_is o (filled_by (holds K) taken.0) (ap (map (filled_by (holds K))) (own_received ∙ taken.1)) in

@@ -1,12 +1,11 @@
 -- Document 01, Scope: "sending on is reading and then writing all rows, the packet being the buffer".
-use Rattle.std.specs.Prelude.{ℕ, ◌≡◌, List, replicate}
-use Rattle.refusal.specs.Answer.{Answer, given, refusal, then, or_else}
+use Rattle.std.specs.Prelude.{ℕ, ◌≡◌, List, replicate, Result}
+use Rattle.refusal.specs.Answer.{Answer, then, or_else, answer_said}
 use Rattle.tagset.specs.declared.TagSet.{TagSet}
 use Rattle.packet.specs.Rows.{read_answer, read_table}
 use Rattle.writer.specs.Writes.{write_answer, write_output}
 use Rattle.writer.specs.declared.Written.{Written}
-use Rattle.relay.specs.declared.Forwarding.{Forwarding}
-use Rattle.relay.specs.declared.Forwarding.TheVariants.{Packet, Refused}
+use Rattle.refusal.specs.declared.Refusal.{Refusal}
 
 -- a table of its own: as many words as the reader needs, so 2 is never the answer
 abbrev pub own_table : List ℕ
@@ -19,10 +18,6 @@ forward_answer K p o = then (read_answer K p own_table) (λ done. write_answer K
 unfoldable pub forward_output : TagSet → List ℕ → List ℕ → List ℕ
 forward_output K p o = or_else o (λ done. write_output K done.count (read_table K p own_table) p o) (read_answer K p own_table)
 
-abbrev pub forward_said : Forwarding → Answer Written
-forward_said (Packet s) = given s
-forward_said (Refused r) = refusal r
-
-pub record Forwards (K : TagSet) (p o : List ℕ) (r : Forwarding) (o' : List ℕ) : Type 0 where
-  pub answer : forward_said r ≡ forward_answer K p o
+pub record Forwards (K : TagSet) (p o : List ℕ) (r : Result Written Refusal) (o' : List ℕ) : Type 0 where
+  pub answer : answer_said r ≡ forward_answer K p o
   pub output : o' ≡ forward_output K p o

@@ -10,16 +10,10 @@ ghost use Rattle.relay.specs.Forwards.{Forwards};
 ghost use Rattle.packet.specs.Structure.{ItemsFrom};
 ghost use Rattle.relay.specs.code.Sends.{items_for, LongerBy, Sendable, Sends};
 
-use packet::{Checked, Header, Step};
-use refusal::{Reason, Refusal};
+use packet::Header;
+use refusal::{Reason, Refusal, refused};
 use tagset::TagSet;
 use writer::Written;
-
-#[derive(Clone, Copy)]
-pub enum Forwarding {
-    Packet(Written),
-    Refused(Refusal),
-}
 
 // An item, its value as it stands in the packet, and the place after it.
 fn put_item(out: &mut [u8], at: usize, packet: &[u8], item: Header) -> usize
@@ -42,16 +36,9 @@ fn put_items(out: &mut [u8], start: usize, packet: &[u8], from: usize) -> usize
 {
     let mut at = start;
     let mut here = from;
-    while here < packet.len() {
-        match packet::item_at(packet, here) {
-            Step::Refused(_) => {
-                return at;
-            }
-            Step::Item(item) => {
-                at = put_item(out, at, packet, item);
-                here = item.place + item.size;
-            }
-        }
+    while let Ok(item) = packet::item_at(packet, here) {
+        at = put_item(out, at, packet, item);
+        here = item.place + item.size;
     }
     at
 }
@@ -65,39 +52,33 @@ fn put_anew(out: &mut [u8], size: usize, items: usize, packet: &[u8], from: usiz
     let start = 16 + ber::put_length(out, 16, items as u64);
     put_items(out, start, packet, from);
     let end = size - 2;
-    let sum = checksum::checksum(&out[..end]) as u64;
+    let sum = u64::from(checksum::checksum(&out[..end]));
     number::put(&mut out[end..size], sum);
 }
 
 // An accepted packet, if there is room for what is sent on. Where that has as many bytes, every form was the shortest already,
 // and it is the packet itself.
-fn send(packet: &[u8], from: usize, longer: usize, out: &mut [u8]) -> Forwarding
+fn send(packet: &[u8], from: usize, longer: usize, out: &mut [u8]) -> Result<Written, Refusal>
     requires { LongerBy packet.now from longer }
     ensures { Sends (canonical packet.now) out.old result out.new }
 {
     let items = packet.len() - from - longer;
     let size = 16 + ber::length_size(items as u64) + items;
     if out.len() < size {
-        return Forwarding::Refused(Refusal {
-            reason: Reason::OutputTooShort,
-            place: 0,
-            tag: 0,
-        });
+        return refused(Reason::OutputTooShort, 0, 0);
     }
     if size == packet.len() {
         spelling::put_text(out, 0, packet);
     } else {
         put_anew(out, size, items, packet, from);
     }
-    Forwarding::Packet(Written { size })
+    Ok(Written { size })
 }
 
 // Sends a packet on, in its shortest form. A refusal leaves the output as it was.
-pub fn forward(known: TagSet, packet: &[u8], out: &mut [u8]) -> Forwarding
+pub fn forward(known: TagSet, packet: &[u8], out: &mut [u8]) -> Result<Written, Refusal>
     ensures { Forwards known packet.now out.old result out.new }
 {
-    match packet::check(packet, known) {
-        Checked::Refused(refusal) => Forwarding::Refused(refusal),
-        Checked::Accepted(accepted) => send(packet, accepted.from, accepted.longer, out),
-    }
+    let accepted = packet::check(packet, known)?;
+    send(packet, accepted.from, accepted.longer, out)
 }

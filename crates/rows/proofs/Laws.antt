@@ -1,7 +1,6 @@
 -- Rows: what a good count says, the shape by the catalogue's column, and answers told apart.
 -- Assumes nothing.
 use Prim.Native.Nat.{ℕ, ◌*◌, ◌≤◌}
-use native.Mathlib.Omega.{arith}
 use mathlib.Core.Path.{◌≡◌, refl, ap, sym, ◌∙◌}
 use mathlib.Core.Bool.{Bool, true, cond, ◌&&◌}
 use mathlib.Core.List.{List}
@@ -9,7 +8,6 @@ use lib.Dec.{leb, eqb}
 use borrow.Author.Tests.{leb-true, eq-eqb, ne_eqb}
 use Rattle.base.proofs.Cases.{by_bool, by_eq, clash}
 use Rattle.base.proofs.Every.{both_left, both_right}
-use Rattle.refusal.proofs.Laws.{refusal_apart}
 use Rattle.catalogue.specs.code.Column.{shape_column, shape_in}
 use Rattle.catalogue.specs.declared.Shape.{Shape}
 use Rattle.catalogue.specs.declared.Shape.TheVariants.{Text, Number, Absent}
@@ -17,9 +15,7 @@ use Rattle.catalogue.proofs.Columns.{shape_in_column}
 use Rattle.catalogue.specs.Shapes.{is_empty}
 use Rattle.rows.specs.Meaning.{reading, mark, text, carried, withdrawn, shape_for, value_as, seen_as, mark_code, kind_of, kind_for, code_of}
 use Rattle.rows.specs.Meaning.{is_number, said_by}
-use Rattle.rows.specs.Taken.{count_good, taken_said}
-use Rattle.rows.specs.declared.Taken.{Taken}
-use Rattle.rows.specs.declared.Taken.TheVariants.{Is, Refused}
+use Rattle.rows.specs.Taken.{count_good}
 
 pub count-good : (count lent : ℕ) → count_good count lent ≡ true → (count ≤ 128) × (4 * count ≤ lent)
 count-good count lent e = (leb-true _ _ (both_left (leb count 128) _ e), leb-true _ _ (both_right (leb count 128) _ e))
@@ -27,12 +23,6 @@ count-good count lent e = (leb-true _ _ (both_left (leb count 128) _ e), leb-tru
 pub shape_by_column : (K : ℕ → Bool) (column : List ℕ) (t : ℕ) → column ≡ shape_column → cond (K t) (shape_in column t) Shape.Absent ≡ shape_for K t
 unfolding shape_for
 shape_by_column K column t e = rw (e, shape_in_column t)
-
-pub taken_apart : (a b : Taken) → taken_said a ≡ taken_said b → a ≡ b
-taken_apart (Is r) (Is s) e = cc
-taken_apart (Is r) (Refused s) e = let z : ◌≡◌ {A = ℕ} 0 1 = cc in absurd (omega arith)
-taken_apart (Refused r) (Is s) e = let z : ◌≡◌ {A = ℕ} 0 1 = cc in absurd (omega arith)
-taken_apart (Refused r) (Refused s) e = ap Refused (refusal_apart r s e)
 
 -- what a row says, by the number of its kind
 module _ {A : Type 0} (kind code size : ℕ) (a : A) where

@@ -2,7 +2,6 @@
 -- Assumes nothing.
 use mathlib.Core.Path.{sym, ◌∙◌}
 use Rattle.base.specs.Determined.{Answered}
-use Rattle.rows.proofs.Laws.{taken_apart}
 use Rattle.rows.proofs.kind_of.Kinds as kind-of-kinds
 use Rattle.rows.proofs.kind_of.Reads as kind-of-reads
 use Rattle.rows.proofs.shape_for.Kinds as shape-for-kinds
@@ -21,6 +20,7 @@ use Rattle.rows.proofs.content_of.Kinds as content-of-kinds
 use Rattle.rows.proofs.content_of.Reads as content-of-reads
 use Rattle.rows.proofs.take_row.Kinds as take-row-kinds
 use Rattle.rows.proofs.take_row.Reads as take-row-reads
+use Rattle.refusal.proofs.Laws.{answer_apart}
 
 pub kind_of_determined : Answered 0 kind-of-kinds.ps kind-of-kinds.r kind-of-reads.Post
 kind_of_determined κs a z z' e e' p q = p ∙ sym q
@@ -47,4 +47,4 @@ pub content_of_determined : Answered 0 content-of-kinds.ps content-of-kinds.r co
 content_of_determined κs a z z' e e' p q = p ∙ sym q
 
 pub take_row_determined : Answered 2 take-row-kinds.ps take-row-kinds.r take-row-reads.Post
-take_row_determined κs a z z' e e' p q = taken_apart z z' (p ∙ sym q)
+take_row_determined κs a z z' e e' p q = answer_apart z z' (p ∙ sym q)

@@ -1,6 +1,6 @@
 -- Document 01, Rows and Writer: which rows are bad, and a row taken out singly.
 use Rattle.std.specs.Prelude.{ℕ, ◌+◌, ◌*◌, ◌/◌, ◌%◌, ◌^◌, ◌≡◌, Bool, true, not, cond, ◌&&◌, ◌||◌, List, length, get_or, ltb, leb, eqb}
-use Rattle.refusal.specs.Answer.{Answer, given, refused, refusal}
+use Rattle.refusal.specs.Answer.{Answer, given, refused}
 use Rattle.tagset.specs.Sets.{holds}
 use Rattle.tagset.specs.declared.TagSet.{TagSet}
 use Rattle.knowing.specs.Good.{good}
@@ -13,8 +13,6 @@ use Rattle.rows.specs.declared.Content.{Content}
 use Rattle.rows.specs.declared.Content.TheVariants as content
 use Rattle.rows.specs.declared.Part.{Part}
 use Rattle.rows.specs.declared.Row.{Row}
-use Rattle.rows.specs.declared.Taken.{Taken}
-use Rattle.rows.specs.declared.Taken.TheVariants.{Is, Refused}
 
 -- the fourth word: place × 65,536 + length
 abbrev pub part_place : ℕ → ℕ
@@ -112,7 +110,3 @@ row_taken_at K room count n words =
     (cond (ltb n count) (row_taken (shape_for (holds K) (row_at words n).tag) room n (row_at words n)) (refused 17 n 0))
     (refused 16 0 0))
     (refused 1 0 0)
-
-abbrev pub taken_said : Taken → Answer Row
-taken_said (Is r) = given r
-taken_said (Refused r) = refusal r

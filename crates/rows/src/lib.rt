@@ -3,21 +3,20 @@
 #![tactic(auto)]
 
 ghost use Rattle.std.specs.Prelude.{◌≡◌, ◌+◌, ◌*◌, length, get_or, eqb, cond};
-ghost use Rattle.refusal.specs.Numbers.{number};
-ghost use Rattle.refusal.specs.Answer.{refused as refusedBy};
+ghost use Rattle.refusal.specs.Answer.{answer_said};
 ghost use Rattle.tagset.specs.Sets.{holds};
 ghost use Rattle.catalogue.specs.code.Column.{shape_in};
 ghost use Rattle.catalogue.specs.declared.Shape.{Shape};
 ghost use Rattle.rows.specs.Meaning.{kind_of, kind_for, value_as, mark_code, said_by};
 ghost use Rattle.rows.specs.Taken.{row_good, tag_good, withdrawn_row_good, value_row_good, value_good, part_good, code_good, count_good, tag_shown};
-ghost use Rattle.rows.specs.Taken.{row_at, part_of, content_of, row_taken, row_taken_at, taken_said};
+ghost use Rattle.rows.specs.Taken.{row_at, part_of, content_of, row_taken, row_taken_at};
 
 use catalogue::Shape;
-use refusal::{Reason, Refusal};
+use refusal::{Reason, Refusal, refused};
 use tagset::TagSet;
 
 // The four words of a row.
-#[derive(Clone, Copy)]
+#[derive(Clone, Copy, Debug, PartialEq, Eq)]
 pub struct RowWords {
     pub tag: u64,
     pub kind: u64,
@@ -26,14 +25,14 @@ pub struct RowWords {
 }
 
 // A filled table: how many rows it has, and as two words each the tags of those that are not carried and of those that are withdrawn.
-#[derive(Clone, Copy)]
+#[derive(Clone, Copy, Debug, PartialEq, Eq)]
 pub struct Filled {
     pub count: usize,
     pub present: TagSet,
     pub withdrawn: TagSet,
 }
 
-// Document 01's numbers of the kinds.
+// Document 01's numbers of the kinds. No enum: they are compared with the words of the table that is lent, which may hold any number (C interface).
 pub const READING: u64 = 1;
 
 pub const MARK: u64 = 2;
@@ -60,15 +59,9 @@ fn kind_of_value(shape: Shape, code: u64) -> u64
     match shape {
         Shape::Text => TEXT,
         Shape::Absent => CARRIED,
-        Shape::Number {
-            least: _,
-            most,
-            marked,
-        } => {
-            if marked {
-                if is_mark(most, code) {
-                    return MARK;
-                }
+        Shape::Number { most, marked, .. } => {
+            if marked && is_mark(most, code) {
+                return MARK;
             }
             READING
         }
@@ -82,10 +75,7 @@ fn is_mark(width: usize, code: u64) -> bool
     if width == 0 {
         return code == 1;
     }
-    if 8 < width {
-        return false;
-    }
-    code == 1 << (8 * width - 1)
+    width <= 8 && code == 1 << (8 * width - 1)
 }
 
 // The shape that a receiver gives a tag, by the column of shapes: it carries what it does not know.
@@ -98,7 +88,8 @@ pub fn shape_for(column: &[u8; 128], known: TagSet, tag: u64) -> Shape
     Shape::Absent
 }
 
-// Whether a row is not bad, for a shape and a buffer of so many bytes: by its length it is withdrawn or has a value.
+// Whether a row is not bad, for a shape and a buffer of so many bytes: by its length it is withdrawn or has a value. Shape, room and row are no
+// struct: the public functions take them one by one, and would take it apart at once.
 pub fn is_good_row(shape: Shape, room: usize, row: RowWords) -> bool
     ensures { result ≡ row_good shape room row }
 {
@@ -112,55 +103,33 @@ pub fn is_good_row(shape: Shape, room: usize, row: RowWords) -> bool
 fn is_good_tag(tag: u64) -> bool
     ensures { result ≡ tag_good tag }
 {
-    if 0 < tag {
-        return tag < 2097152;
-    }
-    false
+    0 < tag && tag < 2097152
 }
 
 // A withdrawn row: code 0, and no item that a packet needs; its place does not matter.
 fn is_good_withdrawal(row: RowWords) -> bool
     ensures { result ≡ withdrawn_row_good row }
 {
-    if is_good_tag(row.tag) {
-        if row.kind == WITHDRAWN {
-            if catalogue::is_needed(row.tag) {
-                return false;
-            }
-            return row.code == 0;
-        }
-    }
-    false
+    is_good_tag(row.tag) && row.kind == WITHDRAWN && !catalogue::is_needed(row.tag) && row.code == 0
 }
 
 // Whether a row of some bytes, or a carried one, is not bad.
 pub fn is_good_value_row(shape: Shape, room: usize, row: RowWords) -> bool
     ensures { result ≡ value_row_good shape room row }
 {
-    if is_good_tag(row.tag) {
-        if row.kind == kind_of_value(shape, row.code) {
-            return is_good_value(shape, room, row);
-        }
-    }
-    false
+    is_good_tag(row.tag)
+        && row.kind == kind_of_value(shape, row.code)
+        && is_good_value(shape, room, row)
 }
 
 fn is_good_value(shape: Shape, room: usize, row: RowWords) -> bool
     ensures { result ≡ value_good shape room row }
 {
     match shape {
-        Shape::Text => is_good_part(room, row.code, row.part),
-        Shape::Absent => is_good_part(room, row.code, row.part),
-        Shape::Number {
-            least: _,
-            most: _,
-            marked: _,
-        } => {
+        Shape::Text | Shape::Absent => is_good_part(room, row.code, row.part),
+        Shape::Number { .. } => {
             let length = (row.part % 65536) as usize;
-            if catalogue::allows_length(shape, length) {
-                return is_good_code(row.tag, length, row.code);
-            }
-            false
+            catalogue::allows_length(shape, length) && is_good_code(row.tag, length, row.code)
         }
     }
 }
@@ -171,10 +140,7 @@ fn is_good_part(room: usize, code: u64, part: u64) -> bool
 {
     let place = (part / 65536) as usize;
     let length = (part % 65536) as usize;
-    if code == 0 {
-        return place + length <= room;
-    }
-    false
+    code == 0 && place + length <= room
 }
 
 // A number: not too wide for its length, the checksum's aside.
@@ -184,21 +150,18 @@ fn is_good_code(tag: u64, width: usize, code: u64) -> bool
     if tag == 1 {
         return true;
     }
-    if 8 <= width {
-        return true;
-    }
-    code < 1 << (8 * width)
+    8 <= width || code < 1 << (8 * width)
 }
 
 // A part of the buffer.
-#[derive(Clone, Copy)]
+#[derive(Clone, Copy, Debug, PartialEq, Eq)]
 pub struct Part {
     pub place: usize,
     pub length: usize,
 }
 
 // What a row holds: a reading's code and length, a mark, where text or carried bytes stand, or that the value no longer holds.
-#[derive(Clone, Copy)]
+#[derive(Clone, Copy, Debug, PartialEq, Eq)]
 pub enum Content {
     Reading { code: u64, length: usize },
     Mark,
@@ -208,35 +171,20 @@ pub enum Content {
 }
 
 // A row taken out singly.
-#[derive(Clone, Copy)]
+#[derive(Clone, Copy, Debug, PartialEq, Eq)]
 pub struct Row {
     pub tag: u64,
     pub content: Content,
-}
-
-#[derive(Clone, Copy)]
-pub enum Taken {
-    Is(Row),
-    Refused(Refusal),
-}
-
-fn refused(reason: Reason, place: usize, tag: u64) -> Taken
-    ensures { taken_said result ≡ refusedBy (number reason) place tag }
-{
-    Taken::Refused(Refusal { reason, place, tag })
 }
 
 // Whether so many rows can stand in so many words.
 pub fn is_good_count(count: usize, lent: usize) -> bool
     ensures { result ≡ count_good count lent }
 {
-    if count <= 128 {
-        return 4 * count <= lent;
-    }
-    false
+    count <= 128 && 4 * count <= lent
 }
 
-// The tag that a bad row is refused with.
+// The tag that a bad row is refused with: 0, which is no tag, where document 01 has none.
 pub fn tag_shown(tag: u64) -> u64
     ensures { result ≡ tag_shown tag }
 {
@@ -251,10 +199,8 @@ fn word_at(words: &[u64], n: usize, k: usize) -> u64
     ensures { result ≡ get_or words.now (4 * n + k) 0 }
 {
     let lent = words.len();
-    if k < lent {
-        if n <= (lent - 1 - k) / 4 {
-            return words[4 * n + k];
-        }
+    if k < lent && n <= (lent - 1 - k) / 4 {
+        return words[4 * n + k];
     }
     0
 }
@@ -284,6 +230,7 @@ pub fn row_at(words: &[u64], n: usize) -> RowWords
     }
 }
 
+// Where a row's bytes stand. A function and no `From`, since what it takes is a number.
 fn part_of(part: u64) -> Part
     ensures { result ≡ part_of part }
 {
@@ -297,30 +244,24 @@ fn part_of(part: u64) -> Part
 pub fn content_of(kind: u64, code: u64, part: Part) -> Content
     ensures { result ≡ content_of (said_by kind code part.length part) }
 {
-    if kind == READING {
-        return Content::Reading {
+    match kind {
+        READING => Content::Reading {
             code,
             length: part.length,
-        };
+        },
+        MARK => Content::Mark,
+        TEXT => Content::Text(part),
+        WITHDRAWN => Content::Withdrawn,
+        _ => Content::Carried(part),
     }
-    if kind == MARK {
-        return Content::Mark;
-    }
-    if kind == TEXT {
-        return Content::Text(part);
-    }
-    if kind == WITHDRAWN {
-        return Content::Withdrawn;
-    }
-    Content::Carried(part)
 }
 
-fn single(shape: Shape, room: usize, n: usize, row: RowWords) -> Taken
-    ensures { taken_said result ≡ row_taken shape room n row }
+fn single(shape: Shape, room: usize, n: usize, row: RowWords) -> Result<Row, Refusal>
+    ensures { answer_said result ≡ row_taken shape room n row }
 {
     if is_good_row(shape, room, row) {
         let part = part_of(row.part);
-        return Taken::Is(Row {
+        return Ok(Row {
             tag: row.tag,
             content: content_of(row.kind, row.code, part),
         });
@@ -329,15 +270,21 @@ fn single(shape: Shape, room: usize, n: usize, row: RowWords) -> Taken
 }
 
 // The row numbered n of count rows, with the buffer that text and carried rows point into: refused as the writer refuses it.
-pub fn take_row(words: &[u64], count: usize, n: usize, known: TagSet, buffer: &[u8]) -> Taken
-    ensures { taken_said result ≡ row_taken_at known (length buffer.now) count n words.now }
+pub fn take_row(
+    words: &[u64],
+    count: usize,
+    n: usize,
+    known: TagSet,
+    buffer: &[u8],
+) -> Result<Row, Refusal>
+    ensures { answer_said result ≡ row_taken_at known (length buffer.now) count n words.now }
 {
     if knowing::is_good(known) {
         if is_good_count(count, words.len()) {
             if n < count {
                 let row = row_at(words, n);
                 let column = catalogue::shapes();
-                let shape = shape_for(&column, known, row.tag);
+                let shape = shape_for(&column.column, known, row.tag);
                 return single(shape, buffer.len(), n, row);
             }
             return refused(Reason::RowBad, n, 0);

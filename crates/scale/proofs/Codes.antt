@@ -14,7 +14,6 @@ use Rattle.refusal.specs.Answer.{given}
 use Rattle.catalogue.specs.Items.{item_of}
 use Rattle.catalogue.specs.Extended.{is_extended}
 use Rattle.catalogue.specs.declared.Item.{Item}
-use Rattle.catalogue.specs.declared.Found.TheVariants.{Known}
 use Rattle.scale.specs.Nearest.{nearest}
 use Rattle.scale.specs.Scales.{codes, origin, reach, steps, is_number, is_outside, code_below, code_far, value_below, value_far, side}
 use Rattle.scale.specs.Conversions.{code_of, to_code}
@@ -27,6 +26,7 @@ use Rattle.scale.proofs.Items.{number_fits}
 use Rattle.scale.proofs.Numbers.{Coded, code_coded}
 use Rattle.scale.proofs.Given.{scaled_rule, code-given, code_is_number}
 use Rattle.scale.proofs.Values.{miss_is}
+use Rattle.std.specs.Prelude.{Some}
 
 pub record NearestCode (i : Item) (v : ℤ) (code : ℕ) : Type 0 where
   pub none_nearer : (other : ℕ) → is_number i other ≡ true → miss i code v ≤ miss i other v
@@ -113,7 +113,7 @@ module _ (i : Item) (r : Rule i) where
   unfolding c
   nearest_code v inside number = record { none_nearer = λ d n. closest v inside d; tie_away = away v inside number }
 
-pub code_nearest : (t n : ℕ) (v : ℤ) (i : Item) (c : Code) → item_of t ≡ Known i → is_extended t ≡ false → to_code t n v ≡ given c
+pub code_nearest : (t n : ℕ) (v : ℤ) (i : Item) (c : Code) → item_of t ≡ Some i → is_extended t ≡ false → to_code t n v ≡ given c
     → NearestCode i v c.code
 code_nearest t n v i c e x p =
     let g = code-given t n v i c e x p in

@@ -16,8 +16,6 @@ use Rattle.catalogue.specs.Items.{item_of}
 use Rattle.catalogue.specs.Shapes.{length_allowed}
 use Rattle.catalogue.specs.Extended.{is_extended, in_reach}
 use Rattle.catalogue.specs.declared.Item.{Item}
-use Rattle.catalogue.specs.declared.Found.{Found}
-use Rattle.catalogue.specs.declared.Found.TheVariants.{Known, Absent}
 use Rattle.scale.specs.Scales.{scaled, codes, is_number, beyond, is_outside}
 use Rattle.scale.specs.Extended.{low_end, high_end, extended_house}
 use Rattle.scale.specs.Conversions.{if_scaled, scaled_item, converted, by_length, house_of, house_given, height_given, to_house}
@@ -31,10 +29,11 @@ use Rattle.scale.proofs.Whole.{inside_small}
 use Rattle.scale.proofs.Items.{neither_left, neither_right}
 use Rattle.scale.proofs.Numbers.{code_coded, house_inside}
 use Rattle.scale.proofs.Extended.{reach_length, height_inside, ends_small}
+use Rattle.std.specs.Prelude.{Option, Some, None}
 
 -- a tag has a scale where its item has one
 pub record Scaled (t : ℕ) (i : Item) : Type 0 where
-  pub known : item_of t ≡ Known i
+  pub known : item_of t ≡ Some i
   pub has_scale : scaled i ≡ true
 
 pub scaled_rule : {t : ℕ} {i : Item} → Scaled t i → Rule i
@@ -68,20 +67,20 @@ code_is_number {t} {i} s v e =
     both_true (ltb (code_of i v) (codes i)) _ (lt-ltb _ _ c.fits) (ap not c.no_mark)
 
 -- the lookup finds the items that have a scale, and no others
-pub scaled_known : (t : ℕ) (i : Item) → scaled_item t ≡ Known i → Scaled t i
+pub scaled_known : (t : ℕ) (i : Item) → scaled_item t ≡ Some i → Scaled t i
 scaled_known t i = go (item_of t) refl
   where
-    go : (f : Found) → item_of t ≡ f → if_scaled f ≡ Known i → Scaled t i
-    go (Known j) k e =
+    go : (f : Option Item) → item_of t ≡ f → if_scaled f ≡ Some i → Scaled t i
+    go (Some j) k e =
         by_bool (scaled j)
-        (λ s. let f : Known j ≡ Known i = rw s at e in let same : j ≡ i = cc in record { known = rw (← same) k; has_scale = rw (← same) s })
-        (λ s. let f : Absent ≡ Known i = rw s at e in never (cc))
-    go Absent k e = never (cc)
+        (λ s. let f : Some j ≡ Some i = rw s at e in let same : j ≡ i = cc in record { known = rw (← same) k; has_scale = rw (← same) s })
+        (λ s. let f : None ≡ Some i = rw s at e in never (cc))
+    go None k e = never (cc)
 
 module _ (t : ℕ) (plain : is_extended t ≡ false) (none : (i : Item) → Scaled t i → ⊥) where
-  unscaled : (f : Found) → scaled_item t ≡ f → f ≡ Absent
-  unscaled (Known i) e = absurd (none i (scaled_known t i e))
-  unscaled Absent e = refl
+  unscaled : (f : Option Item) → scaled_item t ≡ f → f ≡ None
+  unscaled (Some i) e = absurd (none i (scaled_known t i e))
+  unscaled None e = refl
 
   pub house_19 : (n code : ℕ) → to_house t n code ≡ refused 19 0 t
   unfolding to_house
@@ -97,7 +96,7 @@ pub record Gave {A : Type 0} (t : ℕ) (i : Item) (passed : Type 0) (whole a : A
   pub fit : passed
   pub made : a ≡ whole
 
-gave : {A : Type 0} (n t : ℕ) (test : Item → Bool) (give : Item → A) (i : Item) (a : A) → item_of t ≡ Known i
+gave : {A : Type 0} (n t : ℕ) (test : Item → Bool) (give : Item → A) (i : Item) (a : A) → item_of t ≡ Some i
     → converted n t test give (scaled_item t) ≡ given a → Gave t i (test i ≡ true) (give i) a
 gave n t test give i a e p =
     by_bool (scaled i)
@@ -109,12 +108,12 @@ gave n t test give i a e p =
     not_given : {n p q : ℕ} {C : Type 0} → refused n p q ≡ given a → C
     not_given p = never (cc)
 
-pub house-given : (t n code : ℕ) (i : Item) (h : House) → item_of t ≡ Known i → is_extended t ≡ false → to_house t n code ≡ given h
+pub house-given : (t n code : ℕ) (i : Item) (h : House) → item_of t ≡ Some i → is_extended t ≡ false → to_house t n code ≡ given h
     → Gave t i (is_number i code ≡ true) (house_given i code) h
 unfolding to_house
 house-given t n code i h e x p = gave 20 t (λ i. is_number i code) (λ i. house_given i code) i h e (rw x at p)
 
-pub code-given : (t n : ℕ) (v : ℤ) (i : Item) (c : Code) → item_of t ≡ Known i → is_extended t ≡ false → to_code t n v ≡ given c
+pub code-given : (t n : ℕ) (v : ℤ) (i : Item) (c : Code) → item_of t ≡ Some i → is_extended t ≡ false → to_code t n v ≡ given c
     → Gave t i (is_outside i v ≡ false) (code_given i v) c
 unfolding to_code
 code-given t n v i c e x p =
@@ -122,7 +121,7 @@ code-given t n v i c e x p =
     record { scale = g.scale; fit = not-true _ g.fit; made = g.made }
 
 -- what a conversion to a code answers is never a mark, and fits
-pub answer_is_number : (t n : ℕ) (v : ℤ) (i : Item) (c : Code) → item_of t ≡ Known i → is_extended t ≡ false → to_code t n v ≡ given c
+pub answer_is_number : (t n : ℕ) (v : ℤ) (i : Item) (c : Code) → item_of t ≡ Some i → is_extended t ≡ false → to_code t n v ≡ given c
     → is_number i c.code ≡ true
 answer_is_number t n v i c e x p =
     let g = code-given t n v i c e x p in
@@ -191,15 +190,15 @@ house_small t n code h p =
     (λ x. let g = height-given t n code h x p in rw g.made (ends_small (extended_house n code) (height_inside n code g.fit)))
     (λ x. go x (item_of t) refl)
   where
-    go : is_extended t ≡ false → (f : Found) → item_of t ≡ f → mag h.value < 2 ^ 62
-    go x (Known i) e =
+    go : is_extended t ≡ false → (f : Option Item) → item_of t ≡ f → mag h.value < 2 ^ 62
+    go x (Some i) e =
         let g = house-given t n code i h e x p in
         let r = scaled_rule g.scale in
         let o = house_inside i r code g.fit in
         rw g.made
         (inside_small i.low i.high (house_of i code) r.low_small r.high_small
         (neither_left (lt_z (house_of i code) i.low) _ o) (neither_right (lt_z (house_of i code) i.low) _ o))
-    go x Absent e = let f : refused 19 0 t ≡ given h = rw (x, e) at p in never (cc)
+    go x None e = let f : refused 19 0 t ≡ given h = rw (x, e) at p in never (cc)
 
 -- an answer that gives what is so
 abbrev pub Gives : {A : Type 0} → Answer A → (A → Type 0) → Type 0

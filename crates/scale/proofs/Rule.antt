@@ -14,24 +14,23 @@ use Rattle.base.specs.Every.{all, all_below}
 use Rattle.base.proofs.Every.{all_at, all-below}
 use Rattle.catalogue.specs.Items.{groups, member, item_in, item_of}
 use Rattle.catalogue.specs.declared.Item.{Item}
-use Rattle.catalogue.specs.declared.Found.{Found}
-use Rattle.catalogue.specs.declared.Found.TheVariants.{Known, Absent}
 use Rattle.catalogue.proofs.Laws.{item_beyond}
 use Rattle.scale.specs.Nearest.{nearest}
 use Rattle.scale.specs.Scales.{scaled, codes, half, origin, reach, steps}
 use Rattle.scale.specs.code.Rule.{shared, depth, lowest, under, Rule}
+use Rattle.std.specs.Prelude.{Option, Some, None}
 
 -- a test that the scaled items pass, of all tags, holds of each
-abbrev pub of_scaled : (Item → Bool) → Found → Bool
-of_scaled test (Known i) = not (scaled i) || test i
-of_scaled test Absent = true
+abbrev pub of_scaled : (Item → Bool) → Option Item → Bool
+of_scaled test (Some i) = not (scaled i) || test i
+of_scaled test None = true
 
 pub of-scaled : (test : Item → Bool) → all_below (λ t. of_scaled test (item_of t)) 128 ≡ true
-    → (t : ℕ) (i : Item) → item_of t ≡ Known i → scaled i ≡ true → test i ≡ true
+    → (t : ℕ) (i : Item) → item_of t ≡ Some i → scaled i ≡ true → test i ≡ true
 of-scaled test pass t i e s =
     by_lt t 128
     (λ h. unless (scaled i) _ (rw e at (all-below (λ t. of_scaled test (item_of t)) 128 pass t h)) s)
-    (λ h. let z : Known i ≡ Absent = sym e ∙ item_beyond t h in never (cc))
+    (λ h. let z : Some i ≡ None = sym e ∙ item_beyond t h in never (cc))
 
 tests : Item → List Bool
 tests i =
@@ -86,6 +85,6 @@ keeps i e =
       under_inside = leb-true _ _ (held 15 (omega arith));
     }
 
-pub rule : (t : ℕ) (i : Item) → item_of t ≡ Known i → scaled i ≡ true → Rule i
+pub rule : (t : ℕ) (i : Item) → item_of t ≡ Some i → scaled i ≡ true → Rule i
 unfolding ruled
 rule t i e s = keeps i (of-scaled ruled all_ruled t i e s)

@@ -16,8 +16,6 @@ use Rattle.refusal.specs.Answer.{given}
 use Rattle.catalogue.specs.Items.{groups, member, item_in, item_of}
 use Rattle.catalogue.specs.Extended.{is_extended}
 use Rattle.catalogue.specs.declared.Item.{Item}
-use Rattle.catalogue.specs.declared.Found.{Found}
-use Rattle.catalogue.specs.declared.Found.TheVariants.{Known, Absent}
 use Rattle.scale.specs.Nearest.{nearest}
 use Rattle.scale.specs.Scales.{scaled, codes, half, origin, reach, steps, is_number, is_outside, code_below, code_far, value_below, value_far, side}
 use Rattle.scale.specs.Conversions.{house_of, to_house, codes_away, code_at, code_of, to_code}
@@ -32,6 +30,7 @@ use Rattle.scale.proofs.Items.{number_fits, some_steps}
 use Rattle.scale.proofs.Numbers.{code_coded, house_inside}
 use Rattle.scale.proofs.Given.{Scaled, scaled_rule, house-given, code-given, every_code_converts, every_value_converts, code_is_number, Gives}
 use Rattle.scale.proofs.Codes.{below_some}
+use Rattle.std.specs.Prelude.{Option, Some, None}
 
 module _ (i : Item) (r : Rule i) where
   none_back : (m q : ℕ) (k : ℕ) → 0 < q → m ≡ 0 → nearest (m * k) q ≡ 0
@@ -94,7 +93,7 @@ module _ (i : Item) (r : Rule i) where
       (λ e. by_lt 0 m (λ h. h)
       (λ h. let z : m ≡ 0 = omega arith in absurd (omega (arith, below_some i r code n e, sym back ∙ none_back m (reach i) (steps i) r.some z))))
 
-pub there_and_back_within : (t n : ℕ) (v : ℤ) (i : Item) (c : Code) (h : House) → item_of t ≡ Known i → is_extended t ≡ false
+pub there_and_back_within : (t n : ℕ) (v : ℤ) (i : Item) (c : Code) (h : House) → item_of t ≡ Some i → is_extended t ≡ false
     → to_code t n v ≡ given c → to_house t n c.code ≡ given h → 2 * (steps i * nat_abs (h.value -ℤ v)) ≤ reach i + steps i
 there_and_back_within t n v i c h e x p q =
     let g = code-given t n v i c e x p in
@@ -102,7 +101,7 @@ there_and_back_within t n v i c h e x p q =
     rw (k.made, g.made) (within i (scaled_rule g.scale) v g.fit)
 
 -- a step is smaller than a house unit
-pub value_code_value : (t n : ℕ) (v : ℤ) (i : Item) (c : Code) → item_of t ≡ Known i → is_extended t ≡ false → reach i < steps i
+pub value_code_value : (t n : ℕ) (v : ℤ) (i : Item) (c : Code) → item_of t ≡ Some i → is_extended t ≡ false → reach i < steps i
     → to_code t n v ≡ given c → Gives (to_house t n c.code) (λ h. h.value ≡ v)
 value_code_value t n v i c e x fine p =
     let g = code-given t n v i c e x p in
@@ -110,7 +109,7 @@ value_code_value t n v i c e x fine p =
     (value_back i (scaled_rule g.scale) v g.fit fine)
 
 -- a step exceeds a house unit
-pub code_value_code : (t n code : ℕ) (i : Item) (h : House) → item_of t ≡ Known i → is_extended t ≡ false → steps i < reach i
+pub code_value_code : (t n code : ℕ) (i : Item) (h : House) → item_of t ≡ Some i → is_extended t ≡ false → steps i < reach i
     → to_house t n code ≡ given h → Gives (to_code t n h.value) (λ c. c.code ≡ code)
 code_value_code t n code i h e x coarse p =
     let g = house-given t n code i h e x p in
@@ -124,9 +123,9 @@ is_coarse i = scaled i && ltb (steps i) (reach i)
 pub is_fine : Item → Bool
 is_fine i = scaled i && ltb (reach i) (steps i)
 
-pub onto : (Item → Bool) → Found → List ℕ → List ℕ
-onto f (Known i) ts = cond (f i) (i.tag ∷ ts) ts
-onto f Absent ts = ts
+pub onto : (Item → Bool) → Option Item → List ℕ → List ℕ
+onto f (Some i) ts = cond (f i) (i.tag ∷ ts) ts
+onto f None ts = ts
 
 pub tags_from : (Item → Bool) → ℕ → ℕ → List ℕ
 tags_from f zero t = []

@@ -11,7 +11,6 @@ use Rattle.refusal.specs.Answer.{given}
 use Rattle.catalogue.specs.Items.{item_of}
 use Rattle.catalogue.specs.Extended.{is_extended}
 use Rattle.catalogue.specs.declared.Item.{Item}
-use Rattle.catalogue.specs.declared.Found.TheVariants.{Known}
 use Rattle.scale.specs.Scales.{origin, reach, steps, code_below, code_far, side}
 use Rattle.scale.specs.Conversions.{units_away, house_of, to_house}
 use Rattle.scale.specs.Exact.{miss}
@@ -20,6 +19,7 @@ use Rattle.scale.specs.declared.House.{House}
 use Rattle.scale.proofs.Whole.{sided, from_origin, to_origin}
 use Rattle.scale.proofs.Sides.{side_times, near_side, within_half}
 use Rattle.scale.proofs.Given.{house-given, scaled_rule}
+use Rattle.std.specs.Prelude.{Some}
 
 -- what a value so far from the origin misses
 pub miss_is : (i : Item) (code : ℕ) (v : ℤ) (b : Bool) (k : ℕ) → v -ℤ origin i ≡ side b k
@@ -53,7 +53,7 @@ nearest_value i r code = record { within = near; only = alone; no_tie = untied }
     untied : (w : ℤ) → 2 * miss i code w ≡ steps i → ⊥
     untied w h = omega (arith, near, ap (miss i code) (alone w (omega arith)))
 
-pub house_nearest : (t n code : ℕ) (i : Item) (h : House) → item_of t ≡ Known i → is_extended t ≡ false → to_house t n code ≡ given h
+pub house_nearest : (t n code : ℕ) (i : Item) (h : House) → item_of t ≡ Some i → is_extended t ≡ false → to_house t n code ≡ given h
     → NearestValue i code h.value
 house_nearest t n code i h e x p =
     let g = house-given t n code i h e x p in

@@ -1,13 +1,11 @@
 -- Document 01: a code in house units and a value's code, or refusal 19 (no scale), 20 (a mark or too wide) or 21 (outside the range), with the tag as given.
 -- W-202: "The conversions are told the length, ignored at other tags" than those of the extended heights, which come first.
-use Rattle.std.specs.Prelude.{ℕ, ◌-◌, ◌*◌, Bool, not, cond, ◌&&◌, ltb, ℤ, ◌+ℤ◌}
+use Rattle.std.specs.Prelude.{ℕ, ◌-◌, ◌*◌, Bool, not, cond, ◌&&◌, ltb, ℤ, ◌+ℤ◌, Option, Some, None}
 use Rattle.refusal.specs.Answer.{Answer, given, refused}
 use Rattle.catalogue.specs.Items.{item_of}
 use Rattle.catalogue.specs.Shapes.{length_allowed}
 use Rattle.catalogue.specs.Extended.{is_extended, in_reach}
 use Rattle.catalogue.specs.declared.Item.{Item}
-use Rattle.catalogue.specs.declared.Found.{Found}
-use Rattle.catalogue.specs.declared.Found.TheVariants.{Known, Absent}
 use Rattle.scale.specs.Nearest.{nearest}
 use Rattle.scale.specs.Scales.{scaled, codes, origin, reach, steps, is_number, beyond, is_outside, code_below, code_far, value_below, value_far, side}
 use Rattle.scale.specs.Extended.{low_end, high_end, extended_house, extended_code}
@@ -15,17 +13,17 @@ use Rattle.scale.specs.declared.House.{House}
 use Rattle.scale.specs.declared.Code.{Code}
 
 -- the item of a tag, if it has a scale
-abbrev pub if_scaled : Found → Found
-if_scaled (Known i) = cond (scaled i) (Known i) Absent
-if_scaled Absent = Absent
+abbrev pub if_scaled : Option Item → Option Item
+if_scaled (Some i) = cond (scaled i) (Some i) None
+if_scaled None = None
 
-abbrev pub scaled_item : ℕ → Found
+abbrev pub scaled_item : ℕ → Option Item
 scaled_item tag = if_scaled (item_of tag)
 
 -- what an item with a scale gives where the test passes, else the refusal numbered n; without a scale refusal 19
-abbrev pub converted : {A : Type 0} → ℕ → ℕ → (Item → Bool) → (Item → A) → Found → Answer A
-converted n tag test give (Known i) = cond (test i) (given (give i)) (refused n 0 tag)
-converted n tag test give Absent = refused 19 0 tag
+abbrev pub converted : {A : Type 0} → ℕ → ℕ → (Item → Bool) → (Item → A) → Option Item → Answer A
+converted n tag test give (Some i) = cond (test i) (given (give i)) (refused n 0 tag)
+converted n tag test give None = refused 19 0 tag
 
 -- W-202: "the conversions give 19 for another length and 20 for such a code", one beyond 40,000 m or too wide; a value outside gets 21 as elsewhere
 abbrev pub by_length : {A : Type 0} → ℕ → ℕ → ℕ → Bool → A → Answer A

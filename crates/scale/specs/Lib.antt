@@ -3,5 +3,4 @@ pub mod Scales
 pub mod Extended
 pub mod Conversions
 pub mod Exact
-pub mod Said
 pub mod code

@@ -4,6 +4,7 @@
 #![tactic(auto)]
 
 ghost use Rattle.std.specs.Prelude.{◌≡◌, true, false, cond, ◌&&◌, ◌-◌, ◌*◌, ◌/◌, ◌^◌, ◌<◌, ◌≤◌, leb, nat_abs, ◌-ℤ◌, ◌+ℤ◌, pos};
+ghost use Rattle.std.specs.Option.{option_map};
 ghost use Rattle.std.specs.Int.Signed.{mag, lt_z};
 ghost use Rattle.catalogue.specs.Shapes.{is_marked};
 ghost use Rattle.catalogue.specs.Extended.{is_extended, in_reach};
@@ -12,144 +13,28 @@ ghost use Rattle.scale.specs.Scales.{is_number, beyond, is_outside, side};
 ghost use Rattle.scale.specs.Extended.{low_end, high_end, extended_house, extended_code};
 ghost use Rattle.scale.specs.Conversions.{scaled_item, house_of, to_house, code_of, to_code};
 ghost use Rattle.scale.specs.code.Rule.{Rule, Scales, Counted};
-ghost use Rattle.scale.specs.Said.{house_said, code_said};
+ghost use Rattle.refusal.specs.Answer.{answer_said};
 
-use catalogue::{Found, Item, Sign};
-use refusal::{Reason, Refusal};
+use catalogue::{Item, Sign};
+use refusal::{Reason, Refusal, refused};
 
 // In house units.
-#[derive(Clone, Copy)]
+#[derive(Clone, Copy, Debug, PartialEq, Eq)]
 pub struct House {
     pub value: i64,
 }
 
-#[derive(Clone, Copy)]
-pub enum ToHouse {
-    Is(House),
-    Refused(Refusal),
-}
-
 // As it is stored, unsigned.
-#[derive(Clone, Copy)]
+#[derive(Clone, Copy, Debug, PartialEq, Eq)]
 pub struct Code {
     pub code: u64,
 }
 
+// An item that has a scale, and so keeps the rule of all that have one.
 #[derive(Clone, Copy)]
-pub enum ToCode {
-    Is(Code),
-    Refused(Refusal),
-}
-
-// What a code of so many bytes stands for, in house units. Only of an extended height does the length matter.
-pub fn to_house(tag: u64, length: usize, code: u64) -> ToHouse
-    ensures { house_said result ≡ to_house tag length code }
-{
-    if catalogue::is_extended(tag) {
-        return height_to_house(tag, length, code);
-    }
-    match scaled_item(tag) {
-        Found::Known(item) => {
-            if is_number(item, code) {
-                return ToHouse::Is(House {
-                    value: house_of(item, code),
-                });
-            }
-            ToHouse::Refused(refuse(Reason::NotANumber, tag))
-        }
-        Found::Absent => ToHouse::Refused(refuse(Reason::NoScale, tag)),
-    }
-}
-
-// The code of so many bytes that is nearest to a value in house units, of an extended height the one at or below it.
-pub fn to_code(tag: u64, length: usize, value: i64) -> ToCode
-    ensures { code_said result ≡ to_code tag length value }
-{
-    if catalogue::is_extended(tag) {
-        return height_to_code(tag, length, value);
-    }
-    match scaled_item(tag) {
-        Found::Known(item) => {
-            if is_outside(item.low, item.high, value) {
-                return ToCode::Refused(refuse(Reason::ValueOutOfRange, tag));
-            }
-            ToCode::Is(Code {
-                code: code_of(item, value),
-            })
-        }
-        Found::Absent => ToCode::Refused(refuse(Reason::NoScale, tag)),
-    }
-}
-
-// A conversion's refusal: it has no place.
-fn refuse(reason: Reason, tag: u64) -> Refusal
-    ensures { (result.reason ≡ reason) × (result.place ≡ 0) × (result.tag ≡ tag) }
-{
-    Refusal {
-        reason,
-        place: 0,
-        tag,
-    }
-}
-
-// The item of a tag, if it has a scale: of all items but the extended heights that shows in the range alone.
-fn scaled_item(tag: u64) -> Found
-    requires { is_extended tag ≡ false }
-    ensures { result ≡ scaled_item tag }
-{
-    match items::item_of(tag) {
-        Found::Known(item) => {
-            if item.low < item.high {
-                return Found::Known(item);
-            }
-            Found::Absent
-        }
-        Found::Absent => Found::Absent,
-    }
-}
-
-// Whether a value is outside a range; both ends are inside.
-pub fn is_outside(low: i64, high: i64, value: i64) -> bool
-    ensures { result ≡ beyond low high value }
-{
-    if value < low {
-        return true;
-    }
-    high < value
-}
-
-// How many codes a number of so many bytes has.
-fn codes_of(width: usize) -> u64
-    requires { width < 5 }
-    ensures { result ≡ 2 ^ (8 * width) }
-{
-    1 << (8 * width)
-}
-
-fn has_mark(sign: Sign) -> bool
-    ensures { result ≡ is_marked sign }
-{
-    match sign {
-        Sign::Marked => true,
-        Sign::Signed => false,
-        Sign::Unsigned => false,
-    }
-}
-
-// Whether a code stands for a number: it fits and is no mark.
-fn is_number(item: Item, code: u64) -> bool
-    requires { Rule item }
-    ensures { result ≡ is_number item code }
-{
-    let codes = codes_of(item.width);
-    if codes <= code {
-        return false;
-    }
-    let sign = item.sign;
-    if has_mark(sign) {
-        return code != codes / 2;
-    }
-    true
+struct Scaled {
+    item: Item,
+    ghost rule: { Rule item },
 }
 
 // An item's scale: values are counted from the origin, and as many house units as reach are as many codes as steps,
@@ -163,24 +48,135 @@ struct Scale {
     steps: u64,
 }
 
-fn scale_of(item: Item) -> Scale
-    requires { Rule item }
-    ensures { Scales item result }
+// What a code of so many bytes stands for, in house units. Only of an extended height does the length matter.
+pub fn to_house(tag: u64, length: usize, code: u64) -> Result<House, Refusal>
+    ensures { answer_said result ≡ to_house tag length code }
 {
-    let codes = codes_of(item.width);
-    let low = item.low;
-    let high = item.high;
-    let sign = item.sign;
-    match sign {
-        Sign::Unsigned => Scale {
-            origin: low,
-            signed: false,
-            codes,
-            reach: apart(low, high) / 5,
-            steps: (codes - 1) / 5,
-        },
-        Sign::Signed => two_sided(codes, high),
-        Sign::Marked => two_sided(codes, high),
+    if catalogue::is_extended(tag) {
+        return height_to_house(tag, length, code);
+    }
+    match scaled_item(tag) {
+        Some(scaled) => {
+            if scaled.is_number(code) {
+                return Ok(House {
+                    value: scaled.house_of(code),
+                });
+            }
+            refused(Reason::NotANumber, 0, tag)
+        }
+        None => refused(Reason::NoScale, 0, tag),
+    }
+}
+
+// The code of so many bytes that is nearest to a value in house units, of an extended height the one at or below it. In form like `to_house`, but what
+// is asked, refused and answered is another thing each time.
+pub fn to_code(tag: u64, length: usize, value: i64) -> Result<Code, Refusal>
+    ensures { answer_said result ≡ to_code tag length value }
+{
+    if catalogue::is_extended(tag) {
+        return height_to_code(tag, length, value);
+    }
+    match scaled_item(tag) {
+        Some(scaled) => {
+            if is_outside(scaled.item.low, scaled.item.high, value) {
+                return refused(Reason::ValueOutOfRange, 0, tag);
+            }
+            Ok(Code {
+                code: scaled.code_of(value),
+            })
+        }
+        None => refused(Reason::NoScale, 0, tag),
+    }
+}
+
+// The item of a tag, if it has a scale: of all items but the extended heights that shows in the range alone.
+fn scaled_item(tag: u64) -> Option<Scaled>
+    requires { is_extended tag ≡ false }
+    ensures { option_map (λ s. s.item) result ≡ scaled_item tag }
+{
+    let item = items::item_of(tag)?;
+    if item.low < item.high {
+        return Some(Scaled { item });
+    }
+    None
+}
+
+// Whether a value is outside a range; both ends are inside.
+pub fn is_outside(low: i64, high: i64, value: i64) -> bool
+    ensures { result ≡ beyond low high value }
+{
+    value < low || high < value
+}
+
+// How many codes a number of so many bytes has.
+fn codes_of(width: usize) -> u64
+    requires { width < 5 }
+    ensures { result ≡ 2 ^ (8 * width) }
+{
+    1 << (8 * width)
+}
+
+fn has_mark(sign: Sign) -> bool
+    ensures { result ≡ is_marked sign }
+{
+    matches!(sign, Sign::Marked)
+}
+
+impl Scaled {
+    // Whether a code stands for a number: it fits and is no mark.
+    fn is_number(self, code: u64) -> bool
+        ensures { result ≡ is_number self.item code }
+    {
+        let codes = codes_of(self.item.width);
+        if codes <= code {
+            return false;
+        }
+        if has_mark(self.item.sign) {
+            return code != codes / 2;
+        }
+        true
+    }
+
+    fn scale(self) -> Scale
+        ensures { Scales self.item result }
+    {
+        let codes = codes_of(self.item.width);
+        let low = self.item.low;
+        let high = self.item.high;
+        match self.item.sign {
+            Sign::Unsigned => Scale {
+                origin: low,
+                signed: false,
+                codes,
+                reach: apart(low, high) / 5,
+                steps: (codes - 1) / 5,
+            },
+            Sign::Signed | Sign::Marked => two_sided(codes, high),
+        }
+    }
+
+    fn house_of(self, code: u64) -> i64
+        requires { is_number self.item code ≡ true }
+        ensures { result ≡ house_of self.item code }
+    {
+        let s = self.scale();
+        let below = s.is_below(code);
+        let far = turned(s.codes, below, code);
+        let units = rounded(far, s.reach, s.steps);
+        placed(s.origin, below, units)
+    }
+
+    fn code_of(self, value: i64) -> u64
+        requires { is_outside self.item value ≡ false }
+        ensures { result ≡ code_of self.item value }
+    {
+        let s = self.scale();
+        let origin = s.origin;
+        let far = rounded(apart(origin, value), s.steps, s.reach);
+        if 0 < far {
+            return turned(s.codes, value < origin, far);
+        }
+        far
     }
 }
 
@@ -233,14 +229,13 @@ fn rounded(far: u64, by: u64, q: u64) -> u64
     whole
 }
 
-// Whether a code is below zero in two's complement.
-fn is_below(s: Scale, code: u64) -> bool
-    ensures { result ≡ (s.signed && leb (s.codes / 2) code) }
-{
-    if s.signed {
-        return s.codes / 2 <= code;
+impl Scale {
+    // Whether a code is below zero in two's complement.
+    fn is_below(self, code: u64) -> bool
+        ensures { result ≡ (self.signed && leb (self.codes / 2) code) }
+    {
+        self.signed && self.codes / 2 <= code
     }
-    false
 }
 
 // A distance as a code, or a code as a distance: below zero both are counted down from the number of codes.
@@ -266,80 +261,52 @@ fn placed(origin: i64, below: bool, units: u64) -> i64
     origin + far
 }
 
-fn house_of(item: Item, code: u64) -> i64
-    requires rule { Rule item }
-    requires is_code { is_number item code ≡ true }
-    ensures { result ≡ house_of item code }
-{
-    let s = scale_of(item);
-    let below = is_below(s, code);
-    let far = turned(s.codes, below, code);
-    let units = rounded(far, s.reach, s.steps);
-    placed(s.origin, below, units)
-}
-
-fn code_of(item: Item, value: i64) -> u64
-    requires rule { Rule item }
-    requires inside { is_outside item value ≡ false }
-    ensures { result ≡ code_of item value }
-{
-    let s = scale_of(item);
-    let origin = s.origin;
-    let far = rounded(apart(origin, value), s.steps, s.reach);
-    if 0 < far {
-        return turned(s.codes, value < origin, far);
-    }
-    far
-}
-
 // The ends of the extended heights, in house units: those of their rows, so that no row is looked up.
 const LOW: i64 = -900_000;
 
 const HIGH: i64 = 40_000_000;
 
 // An extended height in house units: another length is refused before the code is looked at.
-fn height_to_house(tag: u64, length: usize, code: u64) -> ToHouse
+fn height_to_house(tag: u64, length: usize, code: u64) -> Result<House, Refusal>
     requires { is_extended tag ≡ true }
-    ensures { house_said result ≡ to_house tag length code }
+    ensures { answer_said result ≡ to_house tag length code }
 {
     if is_height_length(length) {
         if catalogue::is_in_reach(length, code) {
-            return ToHouse::Is(House {
+            return Ok(House {
                 value: height_of(length, code),
             });
         }
-        return ToHouse::Refused(refuse(Reason::NotANumber, tag));
+        return refused(Reason::NotANumber, 0, tag);
     }
-    ToHouse::Refused(refuse(Reason::NoScale, tag))
+    refused(Reason::NoScale, 0, tag)
 }
 
 // The code of an extended height: another length is refused before the value is looked at.
-fn height_to_code(tag: u64, length: usize, value: i64) -> ToCode
+fn height_to_code(tag: u64, length: usize, value: i64) -> Result<Code, Refusal>
     requires { is_extended tag ≡ true }
-    ensures { code_said result ≡ to_code tag length value }
+    ensures { answer_said result ≡ to_code tag length value }
 {
     if is_height_length(length) {
         if is_outside(LOW, HIGH, value) {
-            return ToCode::Refused(refuse(Reason::ValueOutOfRange, tag));
+            return refused(Reason::ValueOutOfRange, 0, tag);
         }
-        return ToCode::Is(Code {
+        return Ok(Code {
             code: height_code(length, value),
         });
     }
-    ToCode::Refused(refuse(Reason::NoScale, tag))
+    refused(Reason::NoScale, 0, tag)
 }
 
 // Whether an extended height may have so many bytes.
 fn is_height_length(length: usize) -> bool
     ensures { result ≡ (leb 2 length && leb length 4) }
 {
-    if 2 <= length {
-        return length <= 4;
-    }
-    false
+    2 <= length && length <= 4
 }
 
-// So many codes as two to this are two metres, 2000 house units: a byte more makes a step 256 times as fine.
+// So many codes as two to this are two metres, 2000 house units: a byte more makes a step 256 times as fine. The length is no struct of its own:
+// that it is one of three stands in two contracts alone, here and below.
 fn fineness(length: usize) -> usize
     requires { (2 ≤ length) × (length ≤ 4) }
     ensures { result ≡ 8 * length - 16 }

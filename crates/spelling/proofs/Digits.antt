@@ -1,12 +1,13 @@
--- A number's digits: how many they are, counted one after the other.
+-- A number's digits: how many they are, and their parts.
 -- Assumes nothing.
 use Prim.Native.Nat.{ℕ, zero, suc, ◌+◌, ◌*◌, ◌/◌, ◌%◌, ◌^◌, ◌<◌, ◌≤◌}
 use native.Mathlib.Omega.{arith}
 use native.Mathlib.Nat.{pow-zero, pow-suc, pow-succ', one-le-pow, mul_assoc, add_comm, add-zero, zero-add, suc-add}
-use native.Mathlib.Nat.{div-one, mod-add-div, div-div-eq-div-mul, add-mul-div_left, add-mul-mod_self_left}
+use native.Mathlib.Nat.{div-one, mod-add-div, div-div-eq-div-mul, add-mul-div_left, add-mul-mod_self_left, div-lt_iff_lt-mul}
 use mathlib.Core.Path.{◌≡◌, refl, ap, sym, ◌∙◌}
 use mathlib.Core.List.{◌∷◌, ◌++◌}
 use lib.Pow.{pow-add}
+use Rattle.std.specs.Prelude.{max}
 use lib.ListN.{length}
 use borrow.Author.Tests.{lt-ltb, le-ltb}
 use Rattle.base.proofs.Cases.{by_lt}
@@ -31,7 +32,7 @@ count_few (suc m) n =
     (λ h. rw (count_one (suc m) n h) (omega arith))
     (λ h. rw (count_more m n h) (omega (arith, count_few m (n / 10))))
 
-length_digits : (k n : ℕ) → length (digits k n) ≡ k
+pub length_digits : (k n : ℕ) → length (digits k n) ≡ k
 unfolding digits
 length_digits k n = digits_long 10 (λ d. 48 + d) k n
 
@@ -41,29 +42,6 @@ decimal_length n = length_digits (count_from 19 n) n
 
 pub decimal_few : (n : ℕ) → length (decimal n) ≤ 20
 decimal_few n = rw (decimal_length n) (count_few 19 n)
-
--- counting: so many digits are counted, and at most so many more are left
-pub record Counting (n size rest : ℕ) : Type 0 where
-  pub more : ℕ
-  pub few : size + more ≡ 20
-  pub small : rest < 10 ^ suc more
-  pub counted : size + count_from more rest ≡ suc (count_from 19 n)
-
-pub count_start : (n : ℕ) → n < 2 ^ 64 → Counting n 1 n
-count_start n h = record { more = 19; few = omega arith; small = omega arith; counted = omega arith }
-
-count_on : (n size rest more : ℕ) → size + more ≡ 20 → rest < 10 ^ suc more → size + count_from more rest ≡ suc (count_from 19 n) → 10 ≤ rest
-    → Counting n (size + 1) (rest / 10)
-count_on n size rest zero f s c h = absurd (omega arith)
-count_on n size rest (suc more) f s c h =
-    let p : 10 ^ suc (suc more) ≡ 10 ^ suc more * 10 = pow-suc 10 (suc more) in
-    record { more = more; few = omega arith; small = omega (arith, rw p at s); counted = omega (arith, count_more more rest h) }
-
-pub count_next : (n size rest : ℕ) → Counting n size rest → 10 ≤ rest → Counting n (size + 1) (rest / 10)
-count_next n size rest c h = count_on n size rest c.more c.few c.small c.counted h
-
-pub count_done : (n size rest : ℕ) → Counting n size rest → rest < 10 → size ≡ length (decimal n)
-count_done n size rest c h = rw (decimal_length n) (omega (arith, count_one c.more rest h, c.counted))
 
 -- the lowest digits are those of what the number leaves
 digits_low : (k l q : ℕ) → digits k (l + 10 ^ k * q) ≡ digits k l
@@ -76,7 +54,7 @@ digits_low (suc k) l q =
     rw (p, head) (ap (λ x. (48 + l / 10 ^ k % 10) ∷ x) (digits_low k l (10 * q)))
 
 -- so many digits, and the lowest after them
-pub digits_split : (j k n : ℕ) → digits j (n / 10 ^ k) ++ digits k (n % 10 ^ k) ≡ digits (j + k) n
+digits_split : (j k n : ℕ) → digits j (n / 10 ^ k) ++ digits k (n % 10 ^ k) ≡ digits (j + k) n
 unfolding digits
 digits_split zero k n =
     let e : n % 10 ^ k + 10 ^ k * (n / 10 ^ k) ≡ n = mod-add-div n (10 ^ k) in
@@ -106,7 +84,7 @@ count_split (suc k) n h b =
     count_more 18 n (omega arith) ∙ (ap suc (sym (count_same 18 (n / 10) (omega arith)) ∙ rest) ∙ rw e (omega arith))
 
 -- a number is what stands before its lowest digits, and they
-pub decimal_split : (k n : ℕ) → 10 ^ k ≤ n → n < 10 ^ 20 → decimal (n / 10 ^ k) ++ digits k (n % 10 ^ k) ≡ decimal n
+decimal_split : (k n : ℕ) → 10 ^ k ≤ n → n < 10 ^ 20 → decimal (n / 10 ^ k) ++ digits k (n % 10 ^ k) ≡ decimal n
 unfolding decimal
 decimal_split k n h b = digits_split (count_from 19 (n / 10 ^ k)) k n ∙ ap (λ i. digits i n) (sym (count_split k n h b))
 
@@ -122,8 +100,24 @@ decimal_exact k n h few b =
 pub decimal_two : (n : ℕ) → 10 ≤ n → n < 100 → digits 2 n ≡ decimal n
 decimal_two n h k = decimal_exact 1 n h (omega arith) (omega arith)
 
-pub decimal_three : (n : ℕ) → 100 ≤ n → n < 1000 → digits 1 (n / 100) ++ digits 2 (n % 100) ≡ decimal n
-decimal_three n h k = digits_split 1 2 n ∙ decimal_exact 2 n h (omega arith) (omega arith)
+pub decimal_three : (n : ℕ) → 100 ≤ n → n < 1000 → digits 3 n ≡ decimal n
+decimal_three n h k = decimal_exact 2 n h (omega arith) (omega arith)
 
 pub decimal_four : (n : ℕ) → 1000 ≤ n → n < 10000 → digits 4 n ≡ decimal n
 decimal_four n h k = decimal_exact 3 n h (omega arith) (omega arith)
+
+-- the same by a given power of ten
+pub decimal_parts : (k n p : ℕ) → p ≡ 10 ^ k → p ≤ n → n < 2 ^ 64 → decimal (n / p) ++ digits k (n % p) ≡ decimal n
+decimal_parts k n p e low h = rw e (decimal_split k n (rw e at low) (omega arith))
+
+pub few_left : (n p : ℕ) → n < 10000 * p → n / p < 10000
+few_left n p h = let some : 0 < p = omega arith in (div-lt_iff_lt-mul some).1 h
+
+-- as code counts them: by the highest power of ten that is no greater
+pub sized : (n m k : ℕ) → n < 2 ^ 64 → m ≡ max n 1 → 10 ^ k ≤ m → m < 10 * 10 ^ k → k + 1 ≡ length (decimal n)
+sized n m k h e low high =
+    let same : count_from 19 n ≡ count_from 19 m =
+    by_lt n 10 (λ small. count_one 19 n small ∙ sym (count_one 19 m (omega arith))) (λ large. ap (count_from 19) (omega arith)) in
+    let some : 1 ≤ 10 ^ k = one-le-pow k 10 (omega arith) in
+    let few : m / 10 ^ k < 10 = (div-lt_iff_lt-mul some).1 high in
+    omega (arith, decimal_length n, same, count_split k m low (omega arith), count_one 19 (m / 10 ^ k) few)

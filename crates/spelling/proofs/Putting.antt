@@ -1,6 +1,6 @@
 -- Text put at a place: two digits for each byte, digits one after the other, and a minus sign before them.
 -- Assumes nothing.
-use Prim.Native.Nat.{ℕ, suc, ◌+◌, ◌*◌, ◌-◌, ◌/◌, ◌%◌, ◌^◌, ◌<◌, ◌≤◌}
+use Prim.Native.Nat.{ℕ, suc, ◌+◌, ◌*◌, ◌-◌, ◌/◌, ◌%◌, ◌<◌, ◌≤◌}
 use native.Mathlib.Omega.{arith}
 use native.Mathlib.Numerals.{add-one}
 use mathlib.Core.Path.{◌≡◌, refl, ap, ◌∙◌}
@@ -8,9 +8,11 @@ use mathlib.Core.List.{List, [], ◌∷◌, ◌++◌, append_assoc}
 use lib.ListN.{length, get_or, take, set, length-append}
 use lib.Seq.{take-suc, length-take-le}
 use Rattle.base.specs.Putting.{Puts, Room, Wrote, put_into}
-use Rattle.base.proofs.Putting.{put_one, put_next, no_room, all_put, all_wrote, room_of, room_first, room_after, wrote_as, wrote_then}
+use borrow.Rule.Slice.PartMut.{mid_of, put_mid}
+use Rattle.base.proofs.Putting.{part-length, part_put, put_one, put_next, no_room, all_put, all_wrote, room_of, room_first, room_after, wrote_as, wrote_then}
 use Rattle.spelling.specs.Spelling.{digits, hex_digit, hex}
 use Rattle.spelling.proofs.Laws.{hex_length}
+use Rattle.spelling.proofs.Digits.{length_digits}
 
 hex_append : (l m : List ℕ) → hex (l ++ m) ≡ hex l ++ hex m
 unfolding hex
@@ -36,17 +38,15 @@ module _ (o : List ℕ) (at : ℕ) (out : List ℕ) (i : ℕ) (l : List ℕ) (h 
       rw j at (put_next o at (bs ++ (high ∷ [])) low (rw j (omega arith))) in
       rw (e, first, second, append_assoc bs (high ∷ []) (low ∷ []), eh, el, hex_next l i h)
 
--- a digit
-module _ {o : List ℕ} {at : ℕ} (d : ℕ) where
-  pub digit_room : Room o at (digits 1 d) → at < length o
-  unfolding digits
-  digit_room h = omega (arith, h.fits)
+-- the lowest digits
+module _ {o : List ℕ} {at : ℕ} (k n : ℕ) (h : Room o at (digits k n)) where
+  pub digits_fit : at + k ≤ length o
+  digits_fit = omega (arith, length_digits k n, h.fits)
 
-  pub digit_wrote : d < 10 → Room o at (digits 1 d) → Wrote o at (digits 1 d) (at + 1) (set o at (48 + d))
-  unfolding digits
-  digit_wrote few h =
-      let e : 48 + d ≡ 48 + d / 10 ^ 0 % 10 = omega arith in
-      all_wrote o at 1 (digits 1 d) refl (omega (arith, digit_room h)) _ (put_one o at (48 + d) (digit_room h) ∙ ap (λ b. put_into o at (b ∷ [])) e)
+  pub digits_wrote : {part : List ℕ} → part ≡ digits (length (mid_of at (at + k - at) o)) n → Wrote o at (digits k n) (at + k) (put_mid at (at + k - at) o part)
+  digits_wrote e =
+      let l : length (mid_of at (at + k - at) o) ≡ k = part-length o at k digits_fit in
+      all_wrote o at k (digits k n) (length_digits k n) digits_fit _ (rw (e, l) (part_put o at k digits_fit (digits k n) (length_digits k n)))
 
 -- what was put, by the place after it
 pub wrote_puts : {o : List ℕ} {at : ℕ} {bs : List ℕ} {n : ℕ} {o' : List ℕ} → Wrote o at bs n o' → Puts o at bs (n - at) o'
@@ -55,12 +55,8 @@ wrote_puts {o} {at} {bs} {n} {o'} w =
     all_put o at (n - at) bs e (omega (arith, w.after, w.inside)) o' w.output
 
 -- a minus sign, and a number after it
-module _ (o : List ℕ) (at : ℕ) (bs : List ℕ) where
-  pub minus_short : length o < at + 1 + length bs → Puts o at (45 ∷ bs) 0 o
-  minus_short h = no_room o at (suc (length bs)) (45 ∷ bs) refl (omega arith)
-
-  pub minus_none : length o ≤ at → Puts o at (45 ∷ bs) 0 o
-  minus_none h = minus_short (omega arith)
+pub minus_short : (o : List ℕ) (at : ℕ) (bs : List ℕ) → length o < at + 1 + length bs → Puts o at (45 ∷ bs) 0 o
+minus_short o at bs h = no_room o at (suc (length bs)) (45 ∷ bs) refl (omega arith)
 
 pub minus_wrote : (o : List ℕ) {at : ℕ} {bs : List ℕ} {n : ℕ} {o' : List ℕ} → at < length o → Wrote (set o at 45) (at + 1) bs n o'
     → Wrote o at (45 ∷ bs) n o'
@@ -77,3 +73,7 @@ module _ {o : List ℕ} {at : ℕ} {high : List ℕ} (low : List ℕ) {text : Li
 
     pub both_wrote : {n : ℕ} {o₂ : List ℕ} → Wrote o₁ m low n o₂ → Wrote o at text n o₂
     both_wrote v = wrote_as e (wrote_then w v)
+
+-- a part of the list is lent, and bs are put there
+pub part_puts : {o : List ℕ} {at n : ℕ} {bs part : List ℕ} → length bs ≡ n → at + n ≤ length o → part ≡ bs → Puts o at bs n (put_mid at (at + n - at) o part)
+part_puts {o} {at} {n} {bs} l h e = all_put o at n bs l h _ (rw e (part_put o at n h bs l))

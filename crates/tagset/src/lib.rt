@@ -6,13 +6,13 @@ ghost use Rattle.std.specs.Prelude.{◌≡◌};
 ghost use Rattle.tagset.specs.Sets.{holds, within, with_tag, size, meet, same};
 
 // The first word is bits 0 to 63.
-#[derive(Clone, Copy)]
+#[derive(Clone, Copy, Debug, PartialEq, Eq)]
 pub struct TagSet {
     pub low: u64,
     pub high: u64,
 }
 
-// Whether the set holds a tag; from 128 on it holds none.
+// Whether the set holds a tag; from 128 on it holds none. By shifts and masks on each word, the form that document 01 names for sets.
 pub fn has(s: TagSet, tag: u64) -> bool
     ensures { result ≡ holds s tag }
 {
@@ -48,10 +48,7 @@ pub fn with_tag(s: TagSet, tag: u64) -> TagSet
 pub fn is_within(s: TagSet, of: TagSet) -> bool
     ensures { result ≡ within s of }
 {
-    if s.low & of.low == s.low {
-        return s.high & of.high == s.high;
-    }
-    false
+    s.low & of.low == s.low && s.high & of.high == s.high
 }
 
 // How many tags the set holds: the set bits of its words.
@@ -71,12 +68,9 @@ pub fn meet_of(s: TagSet, of: TagSet) -> TagSet
     }
 }
 
-// Whether both sets are the same two words.
+// Whether both sets are the same two words: `==`, as a function that docs/ name.
 pub fn is_same(s: TagSet, of: TagSet) -> bool
     ensures { result ≡ same s of }
 {
-    if s.low == of.low {
-        return s.high == of.high;
-    }
-    false
+    s == of
 }

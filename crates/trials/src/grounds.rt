@@ -1,88 +1,54 @@
 // Heights and corners, and the walker.
-use crate::text::{hexadecimal, tab, valued};
-use console::{field, refused, say, signed};
+use crate::Case;
+use crate::text::hexadecimal;
+use console::refused;
 use ground::{Corner, Height};
+use refusal::Refusal;
 use std::io;
-use std::io::Stdout;
-use tagset::TagSet;
+use std::io::{Stdout, Write};
 
-fn missing(to: &mut Stdout) -> io::Result<()> {
-    say(to, b"missing\n")
-}
-
-fn over_ellipsoid(to: &mut Stdout, v: i64) -> io::Result<()> {
-    say(to, b"ellipsoid\t")?;
-    valued(to, v)
-}
-
-fn over_sea_level(to: &mut Stdout, v: i64) -> io::Result<()> {
-    say(to, b"sea level\t")?;
-    valued(to, v)
-}
-
-fn height(to: &mut Stdout, answer: Height) -> io::Result<()> {
+fn height(to: &mut Stdout, answer: Result<Height, Refusal>) -> io::Result<()> {
     match answer {
-        Height::OverEllipsoid(over) => over_ellipsoid(to, over.0),
-        Height::OverSeaLevel(above) => over_sea_level(to, above.0),
-        Height::Missing => missing(to),
-        Height::Refused(r) => refused(to, r),
+        Ok(Height::OverEllipsoid(over)) => writeln!(to, "ellipsoid\t{}", over.0),
+        Ok(Height::OverSeaLevel(above)) => writeln!(to, "sea level\t{}", above.0),
+        Ok(Height::Missing) => writeln!(to, "missing"),
+        Err(r) => refused(to, r),
     }
 }
 
-fn heights(to: &mut Stdout, packet: &[u8], known: TagSet) -> io::Result<()> {
-    say(to, b"sensor height\t")?;
-    height(to, ground::sensor_height(packet, known))?;
-    say(to, b"frame centre height\t")?;
-    height(to, ground::frame_centre_height(packet, known))
+fn heights(to: &mut Stdout, case: &Case) -> io::Result<()> {
+    write!(to, "sensor height\t")?;
+    height(to, ground::sensor_height(case.bytes, case.known()))?;
+    write!(to, "frame centre height\t")?;
+    height(to, ground::frame_centre_height(case.bytes, case.known()))
 }
 
-fn off_the_earth(to: &mut Stdout) -> io::Result<()> {
-    say(to, b"off the Earth\n")
-}
-
-fn located(to: &mut Stdout, latitude: i64, longitude: i64) -> io::Result<()> {
-    signed(to, latitude)?;
-    tab(to)?;
-    valued(to, longitude)
-}
-
-fn corner(to: &mut Stdout, packet: &[u8], known: TagSet, k: u64) -> io::Result<()> {
-    say(to, b"corner")?;
-    field(to, k)?;
-    tab(to)?;
-    match ground::corner_at(packet, known, k) {
-        Corner::At(point) => located(to, point.latitude, point.longitude),
-        Corner::OffTheEarth => off_the_earth(to),
-        Corner::Missing => missing(to),
-        Corner::Refused(r) => refused(to, r),
+fn corner(to: &mut Stdout, case: &Case, k: u64) -> io::Result<()> {
+    write!(to, "corner\t{k}\t")?;
+    match ground::corner_at(case.bytes, case.known(), k) {
+        Ok(Corner::At(point)) => writeln!(to, "{}\t{}", point.latitude, point.longitude),
+        Ok(Corner::OffTheEarth) => writeln!(to, "off the Earth"),
+        Ok(Corner::Missing) => writeln!(to, "missing"),
+        Err(r) => refused(to, r),
     }
 }
 
-fn corners(to: &mut Stdout, packet: &[u8], known: TagSet) -> io::Result<()> {
-    let mut k: u64 = 0;
-    while k < 6 {
-        corner(to, packet, known, k)?;
-        k += 1;
+fn corners(to: &mut Stdout, case: &Case) -> io::Result<()> {
+    for k in 0..6 {
+        corner(to, case, k)?;
     }
-    corner(to, packet, known, 0xFFFF_FFFF_FFFF_FFFF)
+    corner(to, case, u64::MAX)
 }
 
 // The value of each step of a walk.
-fn walked(to: &mut Stdout, packet: &[u8], low: u64, high: u64, steps: u64) -> io::Result<()> {
-    let mut k: u64 = 0;
-    while k < steps {
-        hexadecimal(to, walker::value_number(packet, low, high, k as usize))?;
-        k += 1;
+pub fn walk(to: &mut Stdout, case: &Case) -> io::Result<()> {
+    for step in 0..case.words[2] as usize {
+        hexadecimal(to, walker::value_number(case.bytes, case.known(), step))?;
     }
     Ok(())
 }
 
-pub fn walk(to: &mut Stdout, words: &[u64; 16], packet: &[u8]) -> io::Result<()> {
-    walked(to, packet, words[0], words[1], words[2])
-}
-
-pub fn run(to: &mut Stdout, words: &[u64; 16], packet: &[u8]) -> io::Result<()> {
-    let known = crate::known_of(words);
-    heights(to, packet, known)?;
-    corners(to, packet, known)
+pub fn run(to: &mut Stdout, case: &Case) -> io::Result<()> {
+    heights(to, case)?;
+    corners(to, case)
 }

@@ -1,24 +1,14 @@
 // The leaves: tags and lengths, checksums, the catalogue's shapes, knowing sets.
-use crate::text::newline;
+use crate::Case;
 use catalogue::Shape;
-use console::{decimal, hexadecimal, say};
 use std::io;
-use std::io::Stdout;
-
-fn line(to: &mut Stdout, n: u64) -> io::Result<()> {
-    decimal(to, n)?;
-    newline(to)
-}
+use std::io::{Stdout, Write};
 
 // A number and how many bytes it took, or that it is broken.
-fn show(to: &mut Stdout, field: ber::Field) -> io::Result<()> {
+fn show(to: &mut Stdout, field: Option<ber::Field>) -> io::Result<()> {
     match field {
-        ber::Field::Is { value, size } => {
-            decimal(to, value)?;
-            say(to, b" in ")?;
-            line(to, size as u64)
-        }
-        ber::Field::Broken => say(to, b"broken\n"),
+        Some(ber::Field { value, size }) => writeln!(to, "{value} in {size}"),
+        None => writeln!(to, "broken"),
     }
 }
 
@@ -30,60 +20,52 @@ fn put(to: &mut Stdout, kind: u8, value: u64) -> io::Result<()> {
     } else {
         ber::put_length(&mut out, 0, value)
     };
-    let mut i = 0;
-    while i < 8 {
-        if i < n {
-            hexadecimal(to, number::wide(out[i]), 2)?;
-        }
-        i += 1;
+    for byte in out.iter().take(n) {
+        write!(to, "{byte:02x}")?;
     }
-    newline(to)
+    writeln!(to)
 }
 
 fn number_of(to: &mut Stdout, least: usize, most: usize, marked: bool) -> io::Result<()> {
-    say(to, b" number of ")?;
-    decimal(to, least as u64)?;
+    write!(to, " number of {least}")?;
     if least < most {
-        say(to, b" to ")?;
-        decimal(to, most as u64)?;
+        write!(to, " to {most}")?;
     }
     if marked {
-        say(to, b" with a mark")?;
+        write!(to, " with a mark")?;
     }
     Ok(())
 }
 
 fn shape(to: &mut Stdout, tag: u64) -> io::Result<()> {
     let column = catalogue::shapes();
-    decimal(to, tag)?;
-    match catalogue::shape_at(&column, tag) {
-        Shape::Text => say(to, b" text")?,
+    write!(to, "{tag}")?;
+    match catalogue::shape_at(&column.column, tag) {
+        Shape::Text => write!(to, " text")?,
         Shape::Number {
             least,
             most,
             marked,
         } => number_of(to, least, most, marked)?,
-        Shape::Absent => say(to, b" carried")?,
+        Shape::Absent => write!(to, " carried")?,
     }
-    newline(to)
+    writeln!(to)
 }
 
 fn answer(to: &mut Stdout, yes: bool) -> io::Result<()> {
-    if yes {
-        return say(to, b"yes\n");
-    }
-    say(to, b"no\n")
+    let answer = if yes { "yes" } else { "no" };
+    writeln!(to, "{answer}")
 }
 
-pub fn run(to: &mut Stdout, kind: u8, words: &[u64; 16], bytes: &[u8]) -> io::Result<()> {
-    let first = words[0];
-    match kind {
-        b't' => show(to, ber::tag_at(bytes, first as usize)),
-        b'l' => show(to, ber::length_at(bytes, first as usize)),
-        b'T' | b'L' => put(to, kind, first),
-        b's' => line(to, checksum::checksum(bytes) as u64),
+pub fn run(to: &mut Stdout, case: &Case) -> io::Result<()> {
+    let first = case.words[0];
+    match case.kind {
+        b't' => show(to, ber::tag_at(case.bytes, first as usize)),
+        b'l' => show(to, ber::length_at(case.bytes, first as usize)),
+        b'T' | b'L' => put(to, case.kind, first),
+        b's' => writeln!(to, "{}", checksum::checksum(case.bytes)),
         b'i' => shape(to, first),
-        b'k' => answer(to, knowing::is_good(crate::known_of(words))),
-        _ => answer(to, tagset::has(crate::known_of(words), words[2])),
+        b'k' => answer(to, knowing::is_good(case.known())),
+        _ => answer(to, tagset::has(case.known(), case.words[2])),
     }
 }

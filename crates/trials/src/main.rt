@@ -28,7 +28,7 @@
 // The input has at most 131,072 bytes, a list at most 8,200 entries.
 #![tactic(auto)]
 
-ghost use Rattle.std.specs.Prelude.{◌≡◌, ◌<◌, ◌≤◌, length, IfOk};
+ghost use Rattle.std.specs.Prelude.{◌≡◌, length};
 
 mod conversions;
 mod grounds;
@@ -37,254 +37,206 @@ mod outputs;
 mod readings;
 mod text;
 
-use console::{Word, word_of};
+use console::word_of;
 use std::io;
-use std::io::Stdout;
+use std::io::{Stdout, Write};
+use std::ops::RangeInclusive;
 use tagset::TagSet;
 
-// The first place from here on that holds a byte of this range; else the end.
-fn place_of(input: &[u8], from: usize, least: u8, most: u8) -> usize
-    requires { from ≤ length input.now }
-    ensures { (from ≤ result) × (result ≤ length input.now) }
-{
-    let mut at = from;
-    while at < input.len() {
-        let byte = input[at];
-        if least <= byte {
-            if byte <= most {
-                return at;
-            }
+// What is left of the input.
+#[derive(Drop)]
+struct Input<'a> {
+    rest: &'a [u8],
+}
+
+impl<'a> Input<'a> {
+    // What stands before the next byte of this range, or before the end.
+    fn before(&mut self, range: RangeInclusive<u8>) -> &'a [u8] {
+        let found = self.rest.iter().position(|byte| range.contains(byte));
+        let (passed, rest) = self.rest.split_at(found.unwrap_or(self.rest.len()));
+        self.rest = rest;
+        passed
+    }
+
+    fn line(&mut self) -> &'a [u8] {
+        self.before(b'\n'..=b'\n')
+    }
+
+    // The kind of the next case.
+    fn next_case(&mut self) -> Option<u8> {
+        self.before(b'!'..=255);
+        let (kind, rest) = self.rest.split_first()?;
+        self.rest = rest;
+        Some(*kind)
+    }
+
+    // What is no word counts as 0.
+    fn word(&mut self) -> u64 {
+        self.before(b'!'..=255);
+        word_of(self.before(0..=b' ')).unwrap_or(0)
+    }
+
+    // So many words, as far as there is room, each as an entry of a list.
+    fn words_to<'b, T: Copy, F: Fn(u64) -> T>(
+        &mut self,
+        most: u64,
+        list: &'b mut [T],
+        entry_of: F,
+    ) -> &'b [T]
+        requires { F.IsAlwaysCallable entry_of }
+    {
+        let count = list.len().min(most as usize);
+        let lent = &mut list[..count];
+        for entry in lent.iter_mut() {
+            *entry = entry_of(self.word());
         }
-        at += 1;
+        lent
     }
-    at
-}
 
-fn word_start(input: &[u8], from: usize) -> usize
-    requires { from ≤ length input.now }
-    ensures { (from ≤ result) × (result ≤ length input.now) }
-{
-    place_of(input, from, b'!', 255)
-}
-
-// A word's value, and the place after it.
-#[derive(Clone, Copy)]
-struct Token {
-    value: u64,
-    next: usize,
-}
-
-// What is no word counts as 0.
-fn token_at(input: &[u8], from: usize) -> Token
-    requires { from ≤ length input.now }
-    ensures { (from ≤ result.next) × (result.next ≤ length input.now) }
-{
-    let start = word_start(input, from);
-    let end = place_of(input, start, 0, b' ');
-    match word_of(&input[start..end]) {
-        Word::Is(value) => Token { value, next: end },
-        Word::Not => Token {
-            value: 0,
-            next: end,
-        },
+    // A number, and then so many words, where the case has such a list.
+    fn list<'b, T: Copy, F: Fn(u64) -> T>(
+        &mut self,
+        has: bool,
+        list: &'b mut [T],
+        entry_of: F,
+    ) -> &'b [T]
+        requires { F.IsAlwaysCallable entry_of }
+    {
+        let most = if has { self.word() } else { 0 };
+        self.words_to(most, list, entry_of)
     }
 }
 
-// How many words or bytes were lent, and the place after them.
-#[derive(Clone, Copy)]
-struct Lent {
-    count: usize,
-    next: usize,
+// So many entries of one value. That its length alone is known keeps the check short.
+pub fn filled<T: Copy, const N: usize>(value: T) -> [T; N]
+    ensures { N ≡ length result }
+{
+    [value; N]
 }
 
-// So many words from a place on, as far as there is room.
-fn words_to(input: &[u8], from: usize, most: u64, words: &mut [u64]) -> Lent
-    requires { from ≤ length input.now }
-    ensures { (result.count ≤ length words.new) × (from ≤ result.next) × (result.next ≤ length input.now) }
-{
-    let mut next = from;
-    let mut i: usize = 0;
-    while i < words.len() {
-        if most <= i as u64 {
-            return Lent { count: i, next };
+// How many words a case has before its lists, and whether it has a list of words and one of bytes. A kind is the byte of the input that is
+// described above: as an enum each would be named twice more, and told no better.
+#[derive(Clone, Copy)]
+struct Form {
+    words: u64,
+    has_list: bool,
+    has_bytes: bool,
+}
+
+fn form_of(kind: u8) -> Form {
+    let (words, has_list, has_bytes) = match kind {
+        b'=' | b'/' => (0, false, false),
+        b'T' | b'L' | b'i' => (1, false, false),
+        b'k' => (2, false, false),
+        b'h' | b'<' | b'>' => (3, false, false),
+        b'w' => (0, true, false),
+        b's' => (0, false, true),
+        b't' | b'l' | b'%' => (1, false, true),
+        b'?' | b'@' => (2, false, true),
+        b'r' | b'&' => (3, false, true),
+        b'y' => (4, false, true),
+        b'$' => (15, false, true),
+        _ => (4, true, true),
+    };
+    Form {
+        words,
+        has_list,
+        has_bytes,
+    }
+}
+
+// What the input says of a case.
+#[derive(Clone, Copy)]
+pub struct Case<'a> {
+    pub kind: u8,
+    pub words: &'a [u64; 16],
+    pub list: &'a [u64],
+    pub bytes: &'a [u8],
+}
+
+impl Case<'_> {
+    // The knowing set of a case that has one.
+    pub fn known(&self) -> TagSet {
+        TagSet {
+            low: self.words[0],
+            high: self.words[1],
         }
-        let word = token_at(input, next);
-        words[i] = word.value;
-        next = word.next;
-        i += 1;
-    }
-    Lent { count: i, next }
-}
-
-// A number, and then so many words, where the case has such a list.
-fn words_lent(input: &[u8], from: usize, has: bool, words: &mut [u64]) -> Lent
-    requires { from ≤ length input.now }
-    ensures { (result.count ≤ length words.new) × (from ≤ result.next) × (result.next ≤ length input.now) }
-{
-    if has {
-        let said = token_at(input, from);
-        return words_to(input, said.next, said.value, words);
-    }
-    Lent {
-        count: 0,
-        next: from,
-    }
-}
-
-// Room for bytes, each EE. That its length alone is known keeps the check short.
-pub fn filled() -> [u8; 8200]
-    ensures { 8200 ≡ length result }
-{
-    [0xEE; 8200]
-}
-
-fn wide() -> [u64; 8200]
-    ensures { 8200 ≡ length result }
-{
-    [0; 8200]
-}
-
-// The same for bytes, each a word of which the lowest byte counts.
-fn bytes_lent(input: &[u8], from: usize, has: bool, bytes: &mut [u8]) -> Lent
-    requires { (from ≤ length input.now) × (length bytes.old ≡ 8200) }
-    ensures { (result.count ≤ length bytes.new) × (from ≤ result.next) × (result.next ≤ length input.now) }
-{
-    let mut words = wide();
-    let lent = words_lent(input, from, has, &mut words);
-    let mut i = 0;
-    while i < 8200 {
-        bytes[i] = (words[i] % 256) as u8;
-        i += 1;
-    }
-    lent
-}
-
-// How many words a case has before its lists; 16 more if it has a list of words, 32 more if it has one of bytes.
-fn form_of(kind: u8) -> u64 {
-    match kind {
-        b'=' | b'/' => 0,
-        b'T' | b'L' | b'i' => 1,
-        b'k' => 2,
-        b'h' | b'<' | b'>' => 3,
-        b'w' => 16,
-        b's' => 32,
-        b't' | b'l' | b'%' => 33,
-        b'?' | b'@' => 34,
-        b'r' | b'&' => 35,
-        b'y' => 36,
-        b'$' => 47,
-        _ => 52,
-    }
-}
-
-pub fn known_of(words: &[u64; 16]) -> TagSet {
-    TagSet {
-        low: words[0],
-        high: words[1],
     }
 }
 
 // Reads into the beginning of the table that is kept.
-fn read_into(
-    to: &mut Stdout,
-    table: &mut [u64],
-    words: &[u64; 16],
-    packet: &[u8],
-) -> io::Result<()> {
-    let end = words[2] as usize;
-    if end <= table.len() {
-        readings::answered(to, reader::read(packet, known_of(words), &mut table[..end]))?;
+fn read_into(to: &mut Stdout, case: &Case, table: &mut [u64]) -> io::Result<()> {
+    if let Some(lent) = table.get_mut(..case.words[2] as usize) {
+        readings::answered(to, reader::read(case.bytes, case.known(), lent))?;
     }
     Ok(())
 }
 
-// Runs a case on its words, its list of words, its list of bytes, and the table that is kept.
-fn run(
-    to: &mut Stdout,
-    kind: u8,
-    words: &[u64; 16],
-    list: &[u64],
-    bytes: &[u8],
-    table: &mut [u64],
-) -> io::Result<()> {
-    match kind {
+// Runs a case, with the table that is kept.
+fn run(to: &mut Stdout, case: &Case, table: &mut [u64]) -> io::Result<()> {
+    match case.kind {
         b'=' | b'/' => Ok(()),
-        b'#'..=b'%' => outputs::run(to, kind, words, list, bytes),
-        b'&' => grounds::walk(to, words, bytes),
-        b'@' => grounds::run(to, words, bytes),
-        b'<' | b'>' => conversions::run(to, kind, words),
-        b'r' => read_into(to, table, words, bytes),
-        b'?' | b'w' | b'y' | b'z' => readings::run(to, kind, words, list, bytes, table),
-        _ => leaves::run(to, kind, words, bytes),
+        b'#'..=b'%' => outputs::run(to, case),
+        b'&' => grounds::walk(to, case),
+        b'@' => grounds::run(to, case),
+        b'<' | b'>' => conversions::run(to, case),
+        b'r' => read_into(to, case, table),
+        b'?' | b'w' | b'y' | b'z' => readings::run(to, case, table),
+        _ => leaves::run(to, case),
     }
 }
 
-// The words and lists of a case, and the place after them.
-fn given(
-    to: &mut Stdout,
-    kind: u8,
-    input: &[u8],
-    from: usize,
-    table: &mut [u64],
-) -> io::Result<usize>
-    requires { from ≤ length input.now }
-    ensures { IfOk result (λ next. (from ≤ next) × (next ≤ length input.now)) }
-{
+// Takes the words and lists of a case, and runs it.
+fn given(to: &mut Stdout, kind: u8, input: &mut Input, table: &mut [u64]) -> io::Result<()> {
     let form = form_of(kind);
-    let mut words = [0u64; 16];
-    let first = words_to(input, from, form % 16, &mut words);
-    let mut wide = wide();
-    let list = words_lent(input, first.next, form / 16 % 2 == 1, &mut wide);
-    let mut bytes = filled();
-    let part = bytes_lent(input, list.next, 32 <= form, &mut bytes);
-    let count = list.count;
-    let held = part.count;
-    run(to, kind, &words, &wide[..count], &bytes[..held], table)?;
-    Ok(part.next)
+    let mut words = [0; 16];
+    input.words_to(form.words, &mut words, |word| word);
+    let mut list: [u64; 8200] = filled(0);
+    let list = input.list(form.has_list, &mut list, |word| word);
+    let mut bytes: [u8; 8200] = filled(0);
+    let bytes = input.list(form.has_bytes, &mut bytes, |word| (word % 256) as u8);
+    let case = Case {
+        kind,
+        words: &words,
+        list,
+        bytes,
+    };
+    run(to, &case, table)
 }
 
-// Writes the title of a case that has one, and answers where its words begin.
-fn titled(to: &mut Stdout, kind: u8, input: &[u8], at: usize) -> io::Result<usize>
-    requires { at < length input.now }
-    ensures { IfOk result (λ from. (at < from) × (from ≤ length input.now)) }
-{
-    let from = at + 1;
-    let end = place_of(input, from, b'\n', b'\n');
+// Writes the title of a case that has one.
+fn titled(to: &mut Stdout, kind: u8, input: &mut Input) -> io::Result<()> {
     match kind {
-        b'/' => Ok(end),
-        b'=' => {
-            text::line(to, &input[from..end])?;
-            Ok(end)
+        b'/' => {
+            input.line();
+            Ok(())
         }
+        b'=' => text::line(to, input.line()),
         b'#'..=b'&' | b'@' => {
-            text::line(to, &input[at..end])?;
-            Ok(end)
+            to.write_all(&[kind])?;
+            text::line(to, input.line())
         }
-        _ => Ok(from),
+        _ => Ok(()),
     }
 }
 
-fn cases(to: &mut Stdout, input: &[u8]) -> io::Result<()> {
-    let mut table = readings::sevens();
-    let mut at = word_start(input, 0);
-    while at < input.len() {
-        let kind = input[at];
-        let from = titled(to, kind, input, at)?;
-        let next = given(to, kind, input, from, &mut table)?;
-        at = word_start(input, next);
+fn cases(to: &mut Stdout, bytes: &[u8]) -> io::Result<()> {
+    let mut input = Input { rest: bytes };
+    // Sevens, so that a word that stays is seen.
+    let mut table: [u64; 520] = filled(7);
+    // A case has a byte at least, so there are no more of them than bytes.
+    for _ in 0..bytes.len() {
+        let Some(kind) = input.next_case() else {
+            break;
+        };
+        titled(to, kind, &mut input)?;
+        given(to, kind, &mut input, &mut table)?;
     }
     Ok(())
-}
-
-// Room for the input.
-fn space() -> [u8; 131072]
-    ensures { 131072 ≡ length result }
-{
-    [0; 131072]
 }
 
 fn main(rt: HostRuntime) -> io::Result<()> {
-    let mut input = space();
+    let mut input: [u8; 131072] = filled(0);
     let n = console::read_full(&mut rt.stdin(), &mut input)?;
     cases(&mut rt.stdout(), &input[..n])
 }

@@ -1,42 +1,29 @@
 // What is written to a lent output: packets of rows and of records, and listings. The whole output is shown.
 ghost use Rattle.std.specs.Prelude.{◌≤◌};
 
+use crate::Case;
 use crate::text::{hexadecimal, sized};
-use console::refused;
-use listing::Listing;
+use refusal::Refusal;
 use rows::{Part, Row};
 use std::io;
 use std::io::Stdout;
-use writer::Writing;
+use writer::Written;
 
 // The part of an output that a case asks for. A case that asks for more than there is gets it all.
 fn room(out: &mut [u8], size: u64) -> &mut [u8] {
-    if size <= out.len() as u64 {
-        let end = size as usize;
-        return &mut out[..end];
-    }
-    out
+    let end = out.len().min(size as usize);
+    &mut out[..end]
 }
 
-fn size_of(kind: u8, words: &[u64; 16]) -> u64 {
-    if kind == b'%' {
-        return words[0];
+fn size_of(case: &Case) -> u64 {
+    if case.kind == b'%' {
+        return case.words[0];
     }
-    words[2]
+    case.words[2]
 }
 
-fn packed(to: &mut Stdout, answer: Writing) -> io::Result<()> {
-    match answer {
-        Writing::Packet(packet) => sized(to, b"packet", packet.size),
-        Writing::Refused(r) => refused(to, r),
-    }
-}
-
-fn listed(to: &mut Stdout, answer: Listing) -> io::Result<()> {
-    match answer {
-        Listing::Lines(lines) => sized(to, b"listing", lines.size),
-        Listing::Refused(r) => refused(to, r),
-    }
+fn packed(to: &mut Stdout, answer: Result<Written, Refusal>) -> io::Result<()> {
+    sized(to, "packet", answer.map(|packet| packet.size))
 }
 
 // The record that four words are: tag, kind, and a code or a place with a length.
@@ -54,43 +41,31 @@ fn record_of(words: &[u64; 16], at: usize) -> Row
     }
 }
 
-fn recorded(to: &mut Stdout, words: &[u64; 16], buffer: &[u8], out: &mut [u8]) -> io::Result<()> {
-    let a = record_of(words, 3);
-    let b = record_of(words, 7);
-    let c = record_of(words, 11);
-    let known = crate::known_of(words);
-    packed(to, records::write_three(known, [a, b, c], buffer, out))
+fn recorded(to: &mut Stdout, case: &Case, out: &mut [u8]) -> io::Result<()> {
+    let three = [
+        record_of(case.words, 3),
+        record_of(case.words, 7),
+        record_of(case.words, 11),
+    ];
+    let written = records::write_three(case.known(), three, case.bytes, out);
+    packed(to, written)
 }
 
-fn put(
-    to: &mut Stdout,
-    kind: u8,
-    words: &[u64; 16],
-    rows: &[u64],
-    bytes: &[u8],
-    out: &mut [u8],
-) -> io::Result<()> {
-    match kind {
+fn put(to: &mut Stdout, case: &Case, out: &mut [u8]) -> io::Result<()> {
+    match case.kind {
         b'#' => {
-            packed(
-                to,
-                writer::write(crate::known_of(words), words[3] as usize, rows, bytes, out),
-            )
+            let count = case.words[3] as usize;
+            let written = writer::write(case.known(), count, case.list, case.bytes, out);
+            packed(to, written)
         }
-        b'$' => recorded(to, words, bytes, out),
-        _ => listed(to, listing::list(bytes, out)),
+        b'$' => recorded(to, case, out),
+        _ => sized(to, "listing", listing::list(case.bytes, out)),
     }
 }
 
-pub fn run(
-    to: &mut Stdout,
-    kind: u8,
-    words: &[u64; 16],
-    rows: &[u64],
-    bytes: &[u8],
-) -> io::Result<()> {
-    let mut whole = crate::filled();
-    let out = room(&mut whole, size_of(kind, words));
-    put(to, kind, words, rows, bytes, out)?;
+pub fn run(to: &mut Stdout, case: &Case) -> io::Result<()> {
+    let mut whole: [u8; 8200] = crate::filled(0xEE);
+    let out = room(&mut whole, size_of(case));
+    put(to, case, out)?;
     hexadecimal(to, out)
 }

@@ -1,35 +1,27 @@
-// Texts to standard output. A call costs a check less than a text in the caller.
-use console::{field, say, signed};
+// Lines to standard output.
+use console::refused;
+use refusal::Refusal;
 use std::io;
-use std::io::Stdout;
+use std::io::{Stdout, Write};
 
-pub fn tab(to: &mut Stdout) -> io::Result<()> {
-    say(to, b"\t")
-}
-
-pub fn newline(to: &mut Stdout) -> io::Result<()> {
-    say(to, b"\n")
-}
-
+// A line as it came in.
 pub fn line(to: &mut Stdout, text: &[u8]) -> io::Result<()> {
-    say(to, text)?;
-    newline(to)
+    to.write_all(text)?;
+    writeln!(to)
 }
 
-// What there is, and how much.
-pub fn sized(to: &mut Stdout, what: &[u8], size: usize) -> io::Result<()> {
-    say(to, what)?;
-    field(to, size as u64)?;
-    newline(to)
-}
-
-pub fn valued(to: &mut Stdout, v: i64) -> io::Result<()> {
-    signed(to, v)?;
-    newline(to)
+// What there is, and how much; or the refusal.
+pub fn sized(to: &mut Stdout, what: &str, answer: Result<usize, Refusal>) -> io::Result<()> {
+    match answer {
+        Ok(size) => writeln!(to, "{what}\t{size}"),
+        Err(r) => refused(to, r),
+    }
 }
 
 // The line of a packet's bytes, or of a value's.
 pub fn hexadecimal(to: &mut Stdout, bytes: &[u8]) -> io::Result<()> {
-    console::bytes(to, bytes)?;
-    newline(to)
+    for byte in bytes {
+        write!(to, "{byte:02X}")?;
+    }
+    writeln!(to)
 }

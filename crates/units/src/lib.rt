@@ -14,19 +14,13 @@ use tagset::TagSet;
 fn lone_unit(tag: u64) -> Unit
     ensures { result ≡ lone_unit tag }
 {
-    if tag == 2 {
-        return Unit::Microsecond;
+    match tag {
+        2 => Unit::Microsecond,
+        37 => Unit::Millibar,
+        39 => Unit::Celsius,
+        55 => Unit::Percent,
+        _ => Unit::None,
     }
-    if tag == 37 {
-        return Unit::Millibar;
-    }
-    if tag == 39 {
-        return Unit::Celsius;
-    }
-    if tag == 55 {
-        return Unit::Percent;
-    }
-    Unit::None
 }
 
 // What the values of a tag count.
@@ -57,7 +51,7 @@ pub fn unit_of(tag: u64) -> Unit
     lone_unit(tag)
 }
 
-// The number by which a unit goes outside of the code.
+// The number by which a unit goes outside of the code. No `From`, since both types are of other crates.
 pub fn number_of(unit: Unit) -> u64
     ensures { result ≡ unit_number unit }
 {

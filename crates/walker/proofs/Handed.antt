@@ -44,17 +44,16 @@ use Rattle.laws.proofs.Sent.{Lies, lies_bytes, bytes_back, SizedFor, shape_sized
 use Rattle.laws.proofs.Tables.{has_received}
 use Rattle.walker.specs.Steps.{header_value, header_part, seen_in, row_seen, seen_by, part_by, next_by, seen_at, part_at, next_at, start_place}
 use Rattle.walker.specs.declared.Standing.{Standing}
-use Rattle.walker.specs.declared.Seen.{Seen}
-use Rattle.walker.specs.declared.Seen.TheVariants as seen
+use Rattle.std.specs.Prelude.{Option, Some, None}
 
 -- an item as it is handed out
 pub record Handed : Type 0 where
   pub item : Standing
   pub value : List ℕ
 
-abbrev pub on_seen : Seen → List ℕ → List Handed → List Handed
-on_seen (seen.Item s) v rest = record { item = s; value = v } ∷ rest
-on_seen seen.NoMore v rest = []
+abbrev pub on_seen : Option Standing → List ℕ → List Handed → List Handed
+on_seen (Some s) v rest = record { item = s; value = v } ∷ rest
+on_seen None v rest = []
 
 -- what is handed out from a place on, in at most n steps
 unfoldable pub handed : ℕ → TagSet → List ℕ → ℕ → List Handed
@@ -87,17 +86,17 @@ handed_rows K p [] = []
 handed_rows K p (r ∷ rs) = handed_row K p r ∷ handed_rows K p rs
 
 -- where there are no more, there are none again, and no bytes
-pub none_again : (K : TagSet) (p : List ℕ) (at : ℕ) → seen_at K p at ≡ seen.NoMore → (next_at p at ≡ at) × (part_at p at ≡ [])
+pub none_again : (K : TagSet) (p : List ℕ) (at : ℕ) → seen_at K p at ≡ None → (next_at p at ≡ at) × (part_at p at ≡ [])
 unfolding seen_at next_at part_at
 none_again K p at e = go (header_at p at) refl e
   where
-    go : (a : Answer Header) → header_at p at ≡ a → seen_by K p a ≡ seen.NoMore → (next_by at a ≡ at) × (part_by p a ≡ [])
+    go : (a : Answer Header) → header_at p at ≡ a → seen_by K p a ≡ None → (next_by at a ≡ at) × (part_by p a ≡ [])
     go (given h) f g = never (cc)
     go (refused n b t) f g = (refl, refl)
 
 module _ (K : TagSet) (p : List ℕ) where
   -- there are no more where the packet ends
-  pub end_none : (at : ℕ) → length p ≤ at → seen_at K p at ≡ seen.NoMore
+  pub end_none : (at : ℕ) → length p ≤ at → seen_at K p at ≡ None
   unfolding seen_at header_at read_item read_tag
   end_none at h = rw (nil_at p at h)
 

@@ -15,17 +15,14 @@ use contract.Monad.{Fun}
 use denote.Ref.{Bor}
 use Rattle.base.proofs.Cases.{never}
 use Rattle.base.specs.Determined.{Answered, Read, Says}
-use Rattle.refusal.specs.Answer.{Answer, given, refused}
+use Rattle.refusal.specs.Answer.{Answer, given, refused, answer_said}
 use Rattle.refusal.specs.declared.Refusal.{Refusal}
-use Rattle.refusal.proofs.Laws.{refusal_apart}
+use Rattle.refusal.proofs.Laws.{answer_apart}
 use Rattle.packet.specs.Verdict.{checked}
 use Rattle.packet.specs.declared.Accepted.{Accepted}
-use Rattle.walker.specs.Steps.{begin_by, begin_said, place_by, start_place, found_seen, found_at}
-use Rattle.tagset.specs.Sets.{knowing}
+use Rattle.walker.specs.Steps.{begin_by, place_by, start_place, found_seen, found_at}
+use Rattle.tagset.specs.declared.TagSet.{TagSet}
 use Rattle.walker.specs.Passes.{Starts, Passes}
-use Rattle.walker.specs.declared.Begin.{Begin}
-use Rattle.walker.specs.declared.Begin.TheVariants.{Good, Refused}
-use Rattle.walker.specs.declared.Found.TheVariants.{NoMore}
 use Rattle.walker.specs.declared.Walker.{Walker}
 use Rattle.walker.specs.declared.Started.{Started}
 use Rattle.walker.specs.declared.Passed.{Passed}
@@ -44,6 +41,7 @@ use Rattle.walker.specs.contracts.start as start
 use Rattle.walker.specs.contracts.next as next
 use Rattle.walker.proofs.value_number.Kinds as value-number-kinds
 use Rattle.walker.proofs.value_number.Reads as value-number-reads
+use Rattle.std.specs.Prelude.{Err, None}
 
 pub seen_at_determined : Answered 1 seen-at-kinds.ps seen-at-kinds.r seen-at-reads.Post
 seen_at_determined κs a z z' e e' p q = p ∙ sym q
@@ -60,29 +58,23 @@ next_at_determined κs a z z' e e' p q = p ∙ sym q
 pub value_number_determined : Read 1 value-number-kinds.ps value-number-kinds.r value-number-reads.Post (List ℕ) (λ κs z. z.now)
 value_number_determined κs a z z' e e' p q = p ∙ sym q
 
-begin_apart : (a b : Begin) → begin_said a ≡ begin_said b → a ≡ b
-begin_apart Good Good e = refl
-begin_apart Good (Refused s) e = never (cc)
-begin_apart (Refused r) Good e = never (cc)
-begin_apart (Refused r) (Refused s) e = ap Refused (refusal_apart r s e)
-
 pub opened_determined : Answered 1 opened-kinds.ps opened-kinds.r opened-reads.Post
 opened_determined κs a z z' e e' p q =
-    let answer = begin_apart z.answer z'.answer (p.0 ∙ sym q.0) in
+    let answer = answer_apart z.answer z'.answer (p.0 ∙ sym q.0) in
     let at = p.1 ∙ sym q.1 in
     λ i. record { answer = answer i; at = at i }
 
 -- the contracts of `start` and `next` are `Starts` and `Passes`
 module _ {M : Type 1} {𝓤 : Ura M} (𝓛 : Logic 𝓤) (mem : Memory → SProp 𝓤) (run : Routine → Fun 𝓤) where
-  pub start_says : Says 𝓤 start.ended (start.clauses 𝓛 mem run) (λ κs a z e. Starts a.0 a.1.0 a.1.1.0 z)
+  pub start_says : Says 𝓤 start.ended (start.clauses 𝓛 mem run) (λ κs a z e. Starts a.0 a.1.0 z)
   start_says κs a g z e = refl
 
   pub next_says : Says 𝓤 next.ended (next.clauses 𝓛 mem run) (λ κs a z e. Passes a.0 z)
   next_says κs a g z e = refl
 
-pub start_determined : (s : Bor (List ℕ)) (low high : ℕ) (r r' : Started) → Starts s low high r → Starts s low high r' → r ≡ r'
-start_determined s low high r r' p q =
-    let a = begin_apart r.answer r'.answer (p.answer ∙ sym q.answer) in
+pub start_determined : (s : Bor (List ℕ)) (known : TagSet) (r r' : Started) → Starts s known r → Starts s known r' → r ≡ r'
+start_determined s known r r' p q =
+    let a = answer_apart r.answer r'.answer (p.answer ∙ sym q.answer) in
     let w = p.walker ∙ sym q.walker in
     λ i. record { answer = a i; walker = w i }
 
@@ -91,15 +83,15 @@ pub next_determined : (w : Walker) (r r' : Passed) → Passes w r → Passes w r
 next_determined w r r' p q = (p.found ∙ sym q.found, p.value ∙ sym q.value, p.rest ∙ sym q.rest)
 
 -- a walker whose start was refused stands at the packet's end, and a step finds no more
-module _ (s : Bor (List ℕ)) (low high : ℕ) (r : Started) (f : Refusal) (p : Starts s low high r) (g : r.answer ≡ Refused f) where
-  at_end : (a : Answer Accepted) → checked (knowing low high) s.now ≡ a → place_by s.now a ≡ length s.now
-  at_end (given a) e = let b : begin_said (Refused f) ≡ given tt = sym (ap begin_said g) ∙ (p.answer ∙ ap begin_by e) in never (cc)
+module _ (s : Bor (List ℕ)) (known : TagSet) (r : Started) (f : Refusal) (p : Starts s known r) (g : r.answer ≡ Err f) where
+  at_end : (a : Answer Accepted) → checked known s.now ≡ a → place_by s.now a ≡ length s.now
+  at_end (given a) e = let b : answer_said (Err f) ≡ given tt = sym (ap answer_said g) ∙ (p.answer ∙ ap begin_by e) in never (cc)
   at_end (refused n a t) e = refl
 
   pub refused_end : r.walker.at ≡ length s.now
   unfolding start_place
-  refused_end = ap (λ w. w.at) p.walker ∙ at_end (checked (knowing low high) s.now) refl
+  refused_end = ap (λ w. w.at) p.walker ∙ at_end (checked known s.now) refl
 
-  pub refused_none : (q : Passed) → Passes r.walker q → q.found ≡ NoMore
+  pub refused_none : (q : Passed) → Passes r.walker q → q.found ≡ None
   unfolding found_at
   refused_none q h = h.found ∙ ap found_seen (end_none _ _ _ (omega (arith, refused_end, ap length (ap (λ w. w.packet.now) p.walker))))

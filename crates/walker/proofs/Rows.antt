@@ -7,15 +7,12 @@ use mathlib.Core.Bool.{Bool, true, false, ◌&&◌}
 use mathlib.Core.List.{List, [], ◌∷◌}
 use lib.ListN.{length, take, drop, length-take, length-drop}
 use lib.Dec.{eqb}
-use borrow.Author.Tests.{eq-eqb, ne_eqb}
 use Rattle.base.proofs.Cases.{by_bool, by_eq}
 use Rattle.number.specs.Stored.{value_from, value_of}
 use Rattle.tagset.specs.Sets.{holds}
 use Rattle.tagset.specs.declared.TagSet.{TagSet}
 use Rattle.catalogue.specs.Items.{item_of}
-use Rattle.catalogue.specs.Shapes.{is_marked, shape_by, shape_of, unfixed, is_empty}
-use Rattle.catalogue.specs.declared.Found.{Found}
-use Rattle.catalogue.specs.declared.Found.TheVariants.{Known}
+use Rattle.catalogue.specs.Shapes.{shape_by, shape_of, is_empty}
 use Rattle.catalogue.specs.declared.Item.{Item}
 use Rattle.catalogue.specs.declared.Shape.{Shape}
 use Rattle.catalogue.specs.declared.Shape.TheVariants.{Text, Number, Absent}
@@ -25,6 +22,7 @@ use Rattle.rows.specs.declared.Part.{Part}
 use Rattle.packet.specs.declared.Header.{Header}
 use Rattle.walker.specs.Steps.{header_value, header_part, meaning_in, code_for, seen_in}
 use Rattle.walker.specs.declared.Standing.{Standing}
+use Rattle.std.specs.Prelude.{Option}
 
 -- the shape of a tag, by whether it is known and by its catalogue item
 module _ (K : TagSet) (t : ℕ) (b : Bool) (e : b ≡ holds K t) where
@@ -32,16 +30,9 @@ module _ (K : TagSet) (t : ℕ) (b : Bool) (e : b ≡ holds K t) where
   unfolding shape_for
   not_known f = rw (← e, f)
 
-  module _ (f : b ≡ true) (l x : Found) (g : l ≡ item_of t) (h : l ≡ x) where
-    pub listed : shape_by x ≡ shape_for (holds K) t
-    unfolding shape_for shape_of
-    listed = rw (← e, f, ← g, h)
-
-pub unfixed_shaped : (i : Item) → i.width ≡ 0 → unfixed i ≡ shape_by (Known i)
-unfixed_shaped i e = rw (eq-eqb i.width 0 e)
-
-pub number_shaped : (i : Item) → (i.width ≡ 0 → ⊥) → Number i.width i.width (is_marked i.sign) ≡ shape_by (Known i)
-number_shaped i n = rw (ne_eqb _ _ n)
+  pub listed : b ≡ true → (l : Option Item) → l ≡ item_of t → shape_by l ≡ shape_for (holds K) t
+  unfolding shape_for shape_of
+  listed f l g = rw (← e, f, ← g)
 
 -- a code and a kind say what is seen, wherever the value stands; the code of no bytes is 0
 none_value : (w : List ℕ) → length w ≡ 0 → value_of w % 2 ^ 64 ≡ 0
@@ -54,9 +45,6 @@ number_code l m k w =
     by_eq (length w) 0
     (λ z. rw z (sym (none_value w z)))
     (λ some. code_seen (length w) (tt {0}) l m k (value_of w % 2 ^ 64) some)
-
-pub text_code : (v n : ℕ) → code_for Text v n ≡ 0
-text_code v n = by_bool (eqb n 0) (λ z. rw z) (λ z. rw z)
 
 pub code_by : (s x : Shape) (code v n : ℕ) → s ≡ x → code ≡ code_for x v n → code ≡ code_for s v n
 code_by s x code v n e f = f ∙ sym (ap (λ y. code_for y v n) e)

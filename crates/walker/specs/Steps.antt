@@ -1,7 +1,7 @@
 -- Document 01, Rows: "a walker that keeps the packet and its place and hands back each value as a part of the packet". What each step
 -- finds, for every packet and every place, also where no walker was started there.
-use Rattle.std.specs.Prelude.{ℕ, zero, suc, ◌+◌, ◌%◌, ◌^◌, List, [], length, take, drop}
-use Rattle.refusal.specs.Answer.{Answer, given, refusal, map, or_else}
+use Rattle.std.specs.Prelude.{ℕ, zero, suc, ◌+◌, ◌%◌, ◌^◌, List, [], length, take, drop, Option, Some, None}
+use Rattle.refusal.specs.Answer.{Answer, map, or_else}
 use Rattle.number.specs.Stored.{value_of}
 use Rattle.tagset.specs.Sets.{holds}
 use Rattle.tagset.specs.declared.TagSet.{TagSet}
@@ -15,12 +15,6 @@ use Rattle.packet.specs.Verdict.{checked}
 use Rattle.packet.specs.declared.Header.{Header}
 use Rattle.packet.specs.declared.Accepted.{Accepted}
 use Rattle.walker.specs.declared.Standing.{Standing}
-use Rattle.walker.specs.declared.Seen.{Seen}
-use Rattle.walker.specs.declared.Seen.TheVariants as seen
-use Rattle.walker.specs.declared.Found.{Found}
-use Rattle.walker.specs.declared.Found.TheVariants.{Item, NoMore}
-use Rattle.walker.specs.declared.Begin.{Begin}
-use Rattle.walker.specs.declared.Begin.TheVariants as begin
 
 abbrev pub header_value : List ℕ → Header → List ℕ
 header_value p h = take h.size (drop h.place p)
@@ -53,12 +47,12 @@ unfoldable pub row_seen : Standing → Row
 row_seen s = record { tag = s.tag; content = content_of (said_by s.kind s.code s.length (record { place = s.place; length = s.length })) }
 
 -- the item at a place, where it stands and as a row; its value, and the place after it; where there is none, no bytes and the same place
-abbrev pub seen_by : TagSet → List ℕ → Answer Header → Seen
-seen_by K p = or_else seen.NoMore (λ h. seen.Item (seen_in K p h))
+abbrev pub seen_by : TagSet → List ℕ → Answer Header → Option Standing
+seen_by K p = or_else None (λ h. Some (seen_in K p h))
 
-abbrev pub found_seen : Seen → Found
-found_seen (seen.Item s) = Item (row_seen s)
-found_seen seen.NoMore = NoMore
+abbrev pub found_seen : Option Standing → Option Row
+found_seen (Some s) = Some (row_seen s)
+found_seen None = None
 
 abbrev pub part_by : List ℕ → Answer Header → List ℕ
 part_by p = or_else [] (header_value p)
@@ -66,10 +60,10 @@ part_by p = or_else [] (header_value p)
 abbrev pub next_by : ℕ → Answer Header → ℕ
 next_by at = or_else at (λ h. h.place + h.size)
 
-unfoldable pub seen_at : TagSet → List ℕ → ℕ → Seen
+unfoldable pub seen_at : TagSet → List ℕ → ℕ → Option Standing
 seen_at K p at = seen_by K p (header_at p at)
 
-unfoldable pub found_at : TagSet → List ℕ → ℕ → Found
+unfoldable pub found_at : TagSet → List ℕ → ℕ → Option Row
 found_at K p at = found_seen (seen_at K p at)
 
 unfoldable pub part_at : List ℕ → ℕ → List ℕ
@@ -82,10 +76,6 @@ next_at p at = next_by at (header_at p at)
 -- the packet's end, where there are no more
 abbrev pub begin_by : Answer Accepted → Answer (Unit {0})
 begin_by = map (λ _. tt)
-
-abbrev pub begin_said : Begin → Answer (Unit {0})
-begin_said begin.Good = given tt
-begin_said (begin.Refused r) = refusal r
 
 abbrev pub place_by : List ℕ → Answer Accepted → ℕ
 place_by p = or_else (length p) (λ a. a.from)

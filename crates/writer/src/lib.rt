@@ -9,12 +9,10 @@ ghost use Rattle.ber.specs.Written.{tag_bytes, length_bytes};
 ghost use Rattle.rows.specs.Taken.{part_length};
 ghost use Rattle.packet.specs.Structure.{key};
 ghost use Rattle.packet.specs.Encode.{item_bytes, encode};
-ghost use Rattle.outgoing.specs.declared.Handed.TheVariants.{Words};
 ghost use Rattle.writer.specs.Writes.{WritesWith, Writes};
 ghost use Rattle.writer.specs.code.Putting.{value_said, piece_said, table_bytes, table_pieces, CanPut, Rows, Ready};
 
-use outgoing::{Handed, Outgoing};
-use refusal::{Reason, Refusal};
+use refusal::{Reason, Refusal, refused};
 use rows::RowWords;
 use tagset::TagSet;
 
@@ -32,21 +30,18 @@ fn copy(out: &mut [u8], at: usize, buffer: &[u8], place: usize, size: usize)
     requires { (at + size ≤ length out.old) × (0 < size → place + size ≤ length buffer.now) }
     ensures { Wrote out.old at (take size (drop place buffer.now)) (at + size) out.new }
 {
-    let mut i = 0;
-    while i < size {
-        out[at + i] = buffer[place + i];
-        i += 1;
+    if 0 < size {
+        out[at..at + size].copy_from_slice(&buffer[place..place + size]);
     }
 }
 
-// A row's value, by its kind: the bytes of its code, or those that it points at.
+// A row's value, by its kind, a word of the table: the bytes of its code, or those that it points at.
 fn put_value(out: &mut [u8], at: usize, row: RowWords, buffer: &[u8])
     requires { CanPut buffer.now row × (at + part_length row.part ≤ length out.old) }
     ensures { Wrote out.old at (value_said buffer.now row) (at + part_length row.part) out.new }
 {
-    let part = row.part;
-    let place = (part / 65536) as usize;
-    let size = (part % 65536) as usize;
+    let place = (row.part / 65536) as usize;
+    let size = (row.part % 65536) as usize;
     if row.kind < rows::TEXT {
         put_number(out, at, size, row.code);
     } else {
@@ -59,12 +54,10 @@ fn put_header(out: &mut [u8], at: usize, tag: u64, size: u64) -> usize
     requires { (0 < tag) × Room out.old at (tag_bytes tag ++ length_bytes size) }
     ensures { Wrote out.old at (tag_bytes tag ++ length_bytes size) result out.new }
 {
-    if tag < 128 {
-        if size < 128 {
-            out[at] = tag as u8;
-            out[at + 1] = size as u8;
-            return at + 2;
-        }
+    if tag < 128 && size < 128 {
+        out[at] = tag as u8;
+        out[at + 1] = size as u8;
+        return at + 2;
     }
     let after = at + ber::put_tag(out, at, tag);
     after + ber::put_length(out, after, size)
@@ -82,16 +75,14 @@ fn put_item(out: &mut [u8], at: usize, row: RowWords, buffer: &[u8]) -> usize
 }
 
 // All items, one after another, and the place after them.
+// Count, words and buffer are handed on by two functions alone: a struct of the three would be no plainer.
 fn put_rows(out: &mut [u8], from: usize, count: usize, words: &[u64], buffer: &[u8]) -> usize
     requires { Rows buffer.now count words.now × Room out.old from (table_bytes buffer.now count words.now) }
     ensures { Wrote out.old from (table_bytes buffer.now count words.now) result out.new }
 {
     let mut at = from;
-    let mut n: usize = 0;
-    while n < count {
-        let row = rows::row_at(words, n);
-        at = put_item(out, at, row, buffer);
-        n += 1;
+    for n in 0..count {
+        at = put_item(out, at, rows::row_at(words, n), buffer);
     }
     at
 }
@@ -114,7 +105,7 @@ fn put_packet(out: &mut [u8], size: usize, items: usize, count: usize, words: &[
     let from = put_head(out, items);
     put_rows(out, from, count, words, buffer);
     let end = size - 2;
-    let sum = checksum::checksum(&out[..end]) as u64;
+    let sum = u64::from(checksum::checksum(&out[..end]));
     put_number(out, end, 2, sum);
 }
 
@@ -124,47 +115,39 @@ pub struct Written {
     pub size: usize,
 }
 
-#[derive(Clone, Copy)]
-pub enum Writing {
-    Packet(Written),
-    Refused(Refusal),
-}
-
 // The packet of count rows in lent words, or the refusal, whatever was handed beside the rows.
 fn write_handed(
     known: TagSet,
-    handed: Handed,
+    handed: Option<TagSet>,
     count: usize,
     words: &[u64],
     buffer: &[u8],
     out: &mut [u8],
-) -> Writing
+) -> Result<Written, Refusal>
     ensures { WritesWith known handed count words.now buffer.now out.old result out.new }
 {
-    match outgoing::check_rows(known, handed, count, words, buffer) {
-        Outgoing::Refused(refusal) => Writing::Refused(refusal),
-        Outgoing::Fits(packed) => {
-            let size = packed.size;
-            let short = out.len() < size;
-            if short {
-                return Writing::Refused(Refusal {
-                    reason: Reason::OutputTooShort,
-                    place: 0,
-                    tag: 0,
-                });
-            }
-            put_packet(out, size, packed.items, count, words, buffer);
-            Writing::Packet(Written { size })
-        }
+    let packed = outgoing::check_rows(known, handed, count, words, buffer)?;
+    let size = packed.size;
+    let short = out.len() < size;
+    if short {
+        return refused(Reason::OutputTooShort, 0, 0);
     }
+    put_packet(out, size, packed.items, count, words, buffer);
+    Ok(Written { size })
 }
 
 // Writes count rows in lent words as a packet, with the buffer that text and carried rows point into. Bytes of the output after
 // the packet stay, and a refusal leaves all of them.
-pub fn write(known: TagSet, count: usize, words: &[u64], buffer: &[u8], out: &mut [u8]) -> Writing
+pub fn write(
+    known: TagSet,
+    count: usize,
+    words: &[u64],
+    buffer: &[u8],
+    out: &mut [u8],
+) -> Result<Written, Refusal>
     ensures { Writes known count words.now buffer.now out.old result out.new }
 {
-    write_handed(known, Handed::Nothing, count, words, buffer, out)
+    write_handed(known, None, count, words, buffer, out)
 }
 
 // The same, handed the words that say which items are there: it refuses words that a scan of its rows would not give.
@@ -175,8 +158,8 @@ pub fn write_with(
     words: &[u64],
     buffer: &[u8],
     out: &mut [u8],
-) -> Writing
-    ensures { WritesWith known (Words present) count words.now buffer.now out.old result out.new }
+) -> Result<Written, Refusal>
+    ensures { WritesWith known (Some present) count words.now buffer.now out.old result out.new }
 {
-    write_handed(known, Handed::Words(present), count, words, buffer, out)
+    write_handed(known, Some(present), count, words, buffer, out)
 }

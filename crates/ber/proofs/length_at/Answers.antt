@@ -12,27 +12,23 @@ returns-then-s-at c = rw (nil_at _ _ c.if-s-at.true)
 
 pub returns-then-a-lt128 : goal.returns-then-a-lt128
 unfolding read_length
-returns-then-a-lt128 c = rw (byte_at _ _ c.wide-a.ensures.0 c.if-s-at.false) (search cases)
+returns-then-a-lt128 c = rw (byte_at _ _ c.from-a.ensures c.if-s-at.false) (search cases)
 
 pub returns-then-a-le128 : goal.returns-then-a-le128
 unfolding read_length
-returns-then-a-le128 c = rw (byte_at _ _ c.wide-a.ensures.0 c.if-s-at.false) (search cases)
+returns-then-a-le128 c = rw (byte_at _ _ c.from-a.ensures c.if-s-at.false) (search cases)
 
 pub returns-then-a-gt132 : goal.returns-then-a-gt132
 unfolding read_length
-returns-then-a-gt132 c = rw (byte_at _ _ c.wide-a.ensures.0 c.if-s-at.false) (search cases)
+returns-then-a-gt132 c = rw (byte_at _ _ c.from-a.ensures c.if-s-at.false) (search cases)
 
 pub returns-then-s-from : goal.returns-then-s-from
 unfolding read_length
-returns-then-s-from c =
-    let s = c in
-    rw (byte_at _ _ s.wide-a.ensures.0 s.if-s-at.false, length-drop) (search cases)
+returns-then-s-from c = rw (byte_at _ _ c.from-a.ensures c.if-s-at.false, length-drop) (search cases)
 
 pub few_at-requires : goal.few_at-requires
 few_at-requires c = (omega arith, omega arith, omega arith)
 
 pub returns : goal.returns
 unfolding read_length
-returns c =
-    let s = c in
-    rw (byte_at _ _ s.wide-a.ensures.0 s.if-s-at.false, length-drop, ← c.few_at.ensures) (search cases)
+returns c = rw (byte_at _ _ c.from-a.ensures c.if-s-at.false, length-drop, ← c.few_at.ensures) (search cases)

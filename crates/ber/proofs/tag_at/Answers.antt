@@ -10,16 +10,16 @@ returns-then-s-at c = rw (nil_at _ _ c.if-s-at.true)
 
 pub returns-then-some : goal.returns-then-some
 unfolding read_tag
-returns-then-some c = rw (byte_at _ _ c.wide-a.ensures.0 c.if-s-at.false) (search cases)
+returns-then-some c = rw (byte_at _ _ c.from-a.ensures c.if-s-at.false) (search cases)
 
 pub returns-then-a-lt128 : goal.returns-then-a-lt128
 unfolding read_tag
-returns-then-a-lt128 c = rw (byte_at _ _ c.wide-a.ensures.0 c.if-s-at.false) (search cases)
+returns-then-a-lt128 c = rw (byte_at _ _ c.from-a.ensures c.if-s-at.false) (search cases)
 
 pub returns-then-a-le128 : goal.returns-then-a-le128
 unfolding read_tag
-returns-then-a-le128 c = rw (byte_at _ _ c.wide-a.ensures.0 c.if-s-at.false) (search cases)
+returns-then-a-le128 c = rw (byte_at _ _ c.from-a.ensures c.if-s-at.false) (search cases)
 
 pub returns : goal.returns
 unfolding read_tag
-returns c = rw (byte_at _ _ c.wide-a.ensures.0 c.if-s-at.false) (search cases)
+returns c = rw (byte_at _ _ c.from-a.ensures c.if-s-at.false) (search cases)

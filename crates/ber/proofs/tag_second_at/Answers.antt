@@ -10,8 +10,8 @@ returns-then-s-at c = rw (nil_at _ _ c.if-s-at.true)
 
 pub returns-then-b-lt128 : goal.returns-then-b-lt128
 unfolding tag_second
-returns-then-b-lt128 c = rw (byte_at _ _ c.wide-b.ensures.0 c.if-s-at.false) (search cases)
+returns-then-b-lt128 c = rw (byte_at _ _ c.from-b.ensures c.if-s-at.false) (search cases)
 
 pub returns : goal.returns
 unfolding tag_second
-returns c = rw (byte_at _ _ c.wide-b.ensures.0 c.if-s-at.false) (search cases)
+returns c = rw (byte_at _ _ c.from-b.ensures c.if-s-at.false) (search cases)

@@ -10,8 +10,8 @@ returns-then-s-at c = rw (nil_at _ _ c.if-s-at.true)
 
 pub returns-then-c-lt128 : goal.returns-then-c-lt128
 unfolding tag_third
-returns-then-c-lt128 c = rw (byte_at _ _ c.wide-c.ensures.0 c.if-s-at.false) (search cases)
+returns-then-c-lt128 c = rw (byte_at _ _ c.from-c.ensures c.if-s-at.false) (search cases)
 
 pub returns : goal.returns
 unfolding tag_third
-returns c = rw (byte_at _ _ c.wide-c.ensures.0 c.if-s-at.false) (search cases)
+returns c = rw (byte_at _ _ c.from-c.ensures c.if-s-at.false) (search cases)

@@ -7,6 +7,6 @@ pub returns-then-tag-ge103 : goal.returns-then-tag-ge103
 unfolding is_extended
 returns-then-tag-ge103 c = search cases
 
-pub returns : goal.returns
+pub returns-else-tag-ge103 : goal.returns-else-tag-ge103
 unfolding is_extended
-returns c = search cases
+returns-else-tag-ge103 c = search cases

@@ -23,12 +23,8 @@ returns-then-size-le4 c =
     let x : ℕ = 2 ^ (8 * s - 16) in
     let small : x ≤ 2 ^ 16 = pow_mono {i = 8 * s - 16} {j = 16} (omega arith) in
     let whole : (20450 * x) % 18446744073709551616 ≡ 20450 * x = mod-eq_of_lt (omega arith) in
-    rw (whole, le-leb 2 s c.if-size-ge2.true, le-leb s 4 c.if-size-le4.true) (doubled c.args.code x)
+    rw (whole, le-leb 2 s c.if-size-le4.true.0, le-leb s 4 c.if-size-le4.true.1) (doubled c.args.code x)
 
 pub returns-else-size-le4 : goal.returns-else-size-le4
 unfolding in_reach
 returns-else-size-le4 c = search cases
-
-pub returns-else-size-ge2 : goal.returns-else-size-ge2
-unfolding in_reach
-returns-else-size-ge2 c = search cases

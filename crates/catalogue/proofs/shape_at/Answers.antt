@@ -1,8 +1,6 @@
 -- `catalogue::shape_at` meets its contract.
-use mathlib.Core.Path.{◌≡◌, sym, ◌∙◌}
-use mathlib.Core.Bool.{false}
+use mathlib.Core.Path.{sym, ◌∙◌}
 use Rattle.base.proofs.Cases.{cases}
-use Rattle.catalogue.specs.Extended.{is_extended}
 use Rattle.catalogue.specs.code.Column.{shape_in}
 use Rattle.catalogue.proofs.shape_at.Goals as goal
 
@@ -12,22 +10,16 @@ returns-then-is_extended c = rw (sym c.is_extended.ensures ∙ c.if-is_extended.
 
 pub returns-then-tag-ge128 : goal.returns-then-tag-ge128
 unfolding shape_in
-returns-then-tag-ge128 c = rw ((let plain : is_extended c.args.tag ≡ false = sym c.is_extended.ensures ∙ c.if-is_extended.false in plain)) (search cases)
+returns-then-tag-ge128 c = rw (sym c.is_extended.ensures ∙ c.if-is_extended.false) (search cases)
 
 pub returns-then-kind-eq4 : goal.returns-then-kind-eq4
 unfolding shape_in
-returns-then-kind-eq4 c = let w = c in
-    rw ((let plain : is_extended w.args.tag ≡ false = sym w.is_extended.ensures ∙ w.if-is_extended.false in plain), ← w.wide-byte.ensures.0) (search cases)
+returns-then-kind-eq4 c = rw (sym c.is_extended.ensures ∙ c.if-is_extended.false, ← c.from-byte.ensures) (search cases)
 
 pub returns-then-kind-eq3 : goal.returns-then-kind-eq3
 unfolding shape_in
-returns-then-kind-eq3 c = let w = c in
-    rw ((let plain : is_extended w.args.tag ≡ false = sym w.is_extended.ensures ∙ w.if-is_extended.false in plain), ← w.wide-byte.ensures.0) (search cases)
+returns-then-kind-eq3 c = rw (sym c.is_extended.ensures ∙ c.if-is_extended.false, ← c.from-byte.ensures) (search cases)
 
 pub returns : goal.returns
 unfolding shape_in
-returns c = let w = c in rw (
-  (let plain : is_extended w.args.tag ≡ false = sym w.is_extended.ensures ∙ w.if-is_extended.false in
-      plain),
-  ← w.wide-byte.ensures.0,
-) (search cases)
+returns c = rw (sym c.is_extended.ensures ∙ c.if-is_extended.false, ← c.from-byte.ensures) (search cases)

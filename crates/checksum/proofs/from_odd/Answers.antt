@@ -1,27 +1,27 @@
 -- `checksum::from_odd` meets its contract: the sum so far with that of the bytes left is the sum of all, modulo 65,536.
-use Rattle.std.proofs.Common.{◌≡◌, ◌*◌, ◌/◌, length, drop, ap, arith, rules}
-use Rattle.checksum.specs.Sum.{weighed}
-use Rattle.checksum.proofs.Laws.{none_left, one_left, pair_left}
+use Rattle.std.proofs.Common.{◌≡◌, ◌*◌, ◌/◌, ◌<◌, length, arith}
+use Rattle.checksum.proofs.Laws.{pair_at, pair_left, weighed_none, first_odd}
 use Rattle.checksum.proofs.from_odd.Goals as goal
 
-pub loop-i-preserved : goal.loop-i-preserved
-loop-i-preserved c =
-    let l = c.loop-i in
+pub loop-pair-preserved : goal.loop-pair-preserved
+loop-pair-preserved c =
+    let i = c.loop-pair.pair-index in
     let s = c.args.s.now in
-    let e = pair_left s l.i (omega arith) in
-    (search rules, search rules, search rules, omega arith)
+    let chunks = c.as_chunks.ensures in
+    let less : i < length s / 2 = omega arith in
+    let pair = rw (chunks.front, pair_at _ (length s / 2) i s less) at c.from_le_bytes-sum.ensures in
+    omega (arith, pair_left s i (omega arith))
 
-pub returns-then-pairs-s : goal.returns-then-pairs-s
-returns-then-pairs-s c =
-    let l = c.loop-i in
-    let s = c.args.s.now in
-    let all : l.i ≡ length s / 2 = omega arith in
-    let e = one_left s (length s / 2) (omega arith) in
-    omega (arith, ap (λ k. weighed 1 (drop (2 * k) s)) all)
+pub returns-in-len1 : goal.returns-in-len1
+returns-in-len1 c =
+    let l = c.loop-pair in
+    let e : 2 * l.pair-index ≡ length c.args.s.now / 2 * 2 = omega arith in
+    let over = rw (e, ← c.as_chunks.ensures.back) at l.invariant in
+    omega (arith, first_odd c.as_chunks.result.1.now)
 
-pub returns : goal.returns
-returns c =
-    let l = c.loop-i in
-    let s = c.args.s.now in
-    let e = none_left s l.i (omega arith) in
-    omega arith
+pub returns-in_default : goal.returns-in_default
+returns-in_default c =
+    let l = c.loop-pair in
+    let e : 2 * l.pair-index ≡ length c.args.s.now / 2 * 2 = omega arith in
+    let over = rw (e, ← c.as_chunks.ensures.back) at l.invariant in
+    omega (arith, weighed_none 1 c.as_chunks.result.1.now)

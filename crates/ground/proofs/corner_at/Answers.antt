@@ -1,22 +1,26 @@
 -- `ground::corner_at` meets its contract.
-use mathlib.Core.Path.{ap, ◌∙◌}
-use Rattle.refusal.specs.Answer.{map}
+use mathlib.Core.Path.{sym, ap, ◌∙◌}
+use native.Mathlib.Omega.{arith}
+use Rattle.refusal.specs.Answer.{given, map}
+use Rattle.refusal.proofs.Answers.{handed_on}
+use Rattle.number.proofs.Laws.{bytes_lent}
+use Rattle.tagset.proofs.Laws.{Words}
 use Rattle.ground.specs.Ground.{on_earth, corner_in}
+use Rattle.ground.specs.Said.{corner_said}
 use Rattle.ground.proofs.Located.{refused_so, placed_so, held_so}
 use Rattle.ground.proofs.corner_at.Goals as goal
 
-pub plain_corner-requires : goal.plain_corner-requires
-plain_corner-requires c =
-    let placed = placed_so _ _ _ c.locate-located.ensures _ c.in-Accepted.is in
-    placed
+pub returns-in_err-located : goal.returns-in_err-located
+returns-in_err-located c =
+    ap (map corner_said) (handed_on _ _ c.from_residual.ensures.1 (λ s q. q)) ∙ refused_so (corner_in _) _ _ _ (sym c.in_err-located.ensures)
 
-pub returns-in-Refused : goal.returns-in-Refused
-returns-in-Refused c = refused_so _ _ _ c.locate-located.ensures (corner_in _) _ c.in-Refused.is
+pub invariant_of-found : goal.invariant_of-found
+invariant_of-found c =
+    let words : Words c.args.known = record { low64 = omega (arith, c.well_formed); high64 = omega (arith, c.well_formed) } in
+    record { placed = placed_so _ _ _ words (bytes_lent c.type_inv.packet) (sym c.in_ok-located.ensures) }
 
-pub returns-in-Accepted : goal.returns-in-Accepted
+pub returns : goal.returns
 unfolding corner_in
-returns-in-Accepted c =
-    let k = c in
-    c.on_earth.ensures
-    ∙ (ap (map on_earth) c.plain_corner.ensures
-    ∙ held_so (corner_in _) _ _ _ (placed_so _ _ _ k.locate-located.ensures _ k.in-Accepted.is))
+returns c =
+    ap given (c.on_earth.ensures ∙ ap on_earth c.plain_corner.ensures)
+    ∙ held_so (corner_in _) _ _ _ (sym c.in_ok-located.ensures)

@@ -1,16 +1,23 @@
 -- `ground::sensor_height` meets its contract.
-use mathlib.Core.Path.{◌∙◌}
+use mathlib.Core.Path.{sym, ap, ◌∙◌}
+use native.Mathlib.Omega.{arith}
+use Rattle.refusal.specs.Answer.{given, map}
+use Rattle.refusal.proofs.Answers.{handed_on}
+use Rattle.number.proofs.Laws.{bytes_lent}
+use Rattle.tagset.proofs.Laws.{Words}
+use Rattle.ground.specs.Said.{height_said}
 use Rattle.ground.specs.Ground.{sensor_in}
 use Rattle.ground.proofs.Located.{refused_so, placed_so, held_so}
 use Rattle.ground.proofs.sensor_height.Goals as goal
 
-pub sensor_in-requires : goal.sensor_in-requires
-sensor_in-requires c = placed_so _ _ _ c.locate-located.ensures _ c.in-Accepted.is
+pub returns-in_err-located : goal.returns-in_err-located
+returns-in_err-located c =
+    ap (map height_said) (handed_on _ _ c.from_residual.ensures.1 (λ s q. q)) ∙ refused_so sensor_in _ _ _ (sym c.in_err-located.ensures)
 
-pub returns-in-Refused : goal.returns-in-Refused
-returns-in-Refused c = refused_so _ _ _ c.locate-located.ensures sensor_in _ c.in-Refused.is
+pub invariant_of-found : goal.invariant_of-found
+invariant_of-found c =
+    let words : Words c.args.known = record { low64 = omega (arith, c.well_formed); high64 = omega (arith, c.well_formed) } in
+    record { placed = placed_so _ _ _ words (bytes_lent c.type_inv.packet) (sym c.in_ok-located.ensures) }
 
-pub returns-in-Accepted : goal.returns-in-Accepted
-returns-in-Accepted c =
-    let k = c in
-    c.sensor_in.ensures ∙ held_so sensor_in _ _ _ (placed_so _ _ _ k.locate-located.ensures _ k.in-Accepted.is)
+pub returns : goal.returns
+returns c = ap given c.sensor_in.ensures ∙ held_so sensor_in _ _ _ (sym c.in_ok-located.ensures)

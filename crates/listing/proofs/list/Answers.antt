@@ -3,20 +3,11 @@ use Rattle.number.proofs.Laws.{bytes_lent}
 use Rattle.listing.proofs.Answers.{lists_refusal, lists_rows, listable}
 use Rattle.listing.proofs.list.Goals as goal
 
-pub list_rows-requires : goal.list_rows-requires
-list_rows-requires c =
-    let s = c in
-    let by = bytes_lent s.type_inv.packet in
-    listable s.all_tags.ensures s.read.ensures c.in-Rows.is by
+pub invariant_of-table : goal.invariant_of-table
+invariant_of-table c = record { listable = listable c.all_tags.ensures c.read.ensures c.in-Ok.is (bytes_lent c.type_inv.packet) }
 
-pub returns-in-Refused : goal.returns-in-Refused
-returns-in-Refused c =
-    let s = c in
-    let text = lists_refusal s.all_tags.ensures s.read.ensures c.in-Refused.is in
-    rw (← text) c.list_refusal.ensures
+pub returns-in-Err : goal.returns-in-Err
+returns-in-Err c = rw (← lists_refusal c.all_tags.ensures c.read.ensures c.in-Err.is) c.list_refusal.ensures
 
-pub returns-in-Rows : goal.returns-in-Rows
-returns-in-Rows c =
-    let s = c in
-    let text = lists_rows s.all_tags.ensures s.read.ensures c.in-Rows.is in
-    rw (← text) c.list_rows.ensures
+pub returns-in-Ok : goal.returns-in-Ok
+returns-in-Ok c = rw (← lists_rows c.all_tags.ensures c.read.ensures c.in-Ok.is) c.list.ensures

@@ -1,21 +1,16 @@
 -- `listing::list_accepted` meets its contract.
+use Rattle.refusal.proofs.Answers.{handed_on}
 use Rattle.number.proofs.Laws.{bytes_lent}
 use Rattle.listing.proofs.Answers.{refuses_list, lists_accepted, listable}
 use Rattle.listing.proofs.list_accepted.Goals as goal
 
-pub list_rows-requires : goal.list_rows-requires
-list_rows-requires c =
-    let s = c in
-    let by = bytes_lent s.type_inv.packet in
-    listable s.all_tags.ensures s.read.ensures c.in-Rows.is by
+pub returns-in_err-filled : goal.returns-in_err-filled
+returns-in_err-filled c =
+    refuses_list c.all_tags.ensures c.read.ensures c.in_err-filled.was _ _ (handed_on _ _ c.from_residual.ensures.1 (λ s q. q))
 
-pub returns-in-Refused : goal.returns-in-Refused
-returns-in-Refused c =
-    let s = c in
-    refuses_list s.all_tags.ensures s.read.ensures c.in-Refused.is _
+pub invariant_of-table : goal.invariant_of-table
+invariant_of-table c =
+    record { listable = listable c.all_tags.ensures c.read.ensures c.in_ok-filled.was (bytes_lent c.type_inv.packet) }
 
-pub returns-in-Rows : goal.returns-in-Rows
-returns-in-Rows c =
-    let s = c in
-    lists_accepted s.all_tags.ensures s.read.ensures c.in-Rows.is
-    c.list_rows.ensures
+pub returns : goal.returns
+returns c = lists_accepted c.all_tags.ensures c.read.ensures c.in_ok-filled.was c.list.ensures

@@ -1,5 +1,6 @@
 -- `listing::list_refusal` meets its contract.
-use mathlib.Core.Path.{refl}
+use mathlib.Core.Path.{refl, ◌∙◌}
+use native.Mathlib.Nat.{zero-add}
 use native.Mathlib.Omega.{arith}
 use Rattle.base.proofs.Putting.{front_room}
 use Rattle.listing.proofs.Sizes.{decimal_fits}
@@ -29,18 +30,12 @@ overflow_add-size-2 c =
 
 pub returns-then-out-size : goal.returns-then-out-size
 returns-then-out-size c =
-    let s = c in
-    let long = refusal_long _ _ _ s.decimal_size.ensures s.decimal_size-2.ensures s.decimal_size-3.ensures in
-    rw (← s.number_of-n.ensures) (does_not_fit long c.if-out-size.true c.too_short.ensures)
+    let long = refusal_long _ _ _ c.decimal_size.ensures c.decimal_size-2.ensures c.decimal_size-3.ensures in
+    rw (← c.number_of-n.ensures) (does_not_fit long c.if-out-size.true c.refused.ensures)
 
 pub put_refusal-requires : goal.put_refusal-requires
-put_refusal-requires c =
-    let s = c in
-    let long = refusal_long _ _ _ s.decimal_size.ensures s.decimal_size-2.ensures s.decimal_size-3.ensures in
-    front_room long c.if-out-size.false
+put_refusal-requires c = front_room (refusal_long _ _ _ c.decimal_size.ensures c.decimal_size-2.ensures c.decimal_size-3.ensures) c.if-out-size.false
 
 pub returns : goal.returns
 returns c =
-    let s = c in
-    let long = refusal_long _ _ _ s.decimal_size.ensures s.decimal_size-2.ensures s.decimal_size-3.ensures in
-    rw (← s.number_of-n.ensures) (fits long refl c.put_refusal.ensures)
+    rw (← c.number_of-n.ensures) (fits (c.put_refusal.ensures.after ∙ zero-add _) refl c.put_refusal.ensures)

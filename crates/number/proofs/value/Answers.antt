@@ -1,19 +1,21 @@
 -- `number::value` meets its contract.
 use native.Mathlib.Omega.{arith}
-use mathlib.Core.Path.{sym, ◌∙◌}
-use Rattle.number.proofs.Widths.{one_taken, all_taken}
+use Rattle.number.specs.Stored.{value_from}
+use Rattle.number.proofs.Widths.{value_picked}
 use Rattle.number.proofs.value.Goals as goal
 
-pub returns-then-s-eq2 : goal.returns-then-s-eq2
-returns-then-s-eq2 c = all_taken 2 _ c.if-s-eq2.true (omega arith) c.two_at.ensures.0
+pub returns-in-len2 : goal.returns-in-len2
+unfolding value_from
+returns-in-len2 c = omega (arith, value_picked 2 c.args.s.now (omega arith))
 
-pub returns-then-s-eq4 : goal.returns-then-s-eq4
-returns-then-s-eq4 c = all_taken 4 _ c.if-s-eq4.true (omega arith) c.four_at.ensures.0
+pub returns-in-len4 : goal.returns-in-len4
+unfolding value_from
+returns-in-len4 c = omega (arith, value_picked 4 c.args.s.now (omega arith))
 
-pub returns-then-s-eq1 : goal.returns-then-s-eq1
-returns-then-s-eq1 c =
-    let s = c.args.s.now in
-    all_taken 1 s c.if-s-eq1.true (omega arith) (c.wide.ensures.0 ∙ sym (one_taken 0 s (omega arith)))
+pub returns-in-len1 : goal.returns-in-len1
+unfolding value_from
+returns-in-len1 c = omega (arith, value_picked 1 c.args.s.now (omega arith))
 
-pub returns-then-s-eq8 : goal.returns-then-s-eq8
-returns-then-s-eq8 c = all_taken 8 _ c.if-s-eq8.true (omega arith) c.eight_at.ensures.0
+pub returns-in-len8 : goal.returns-in-len8
+unfolding value_from
+returns-in-len8 c = omega (arith, value_picked 8 c.args.s.now (omega arith))

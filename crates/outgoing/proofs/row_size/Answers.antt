@@ -4,7 +4,13 @@ use Rattle.outgoing.proofs.Walked.{row_small}
 use Rattle.outgoing.proofs.row_size.Goals as goal
 
 pub overflow_add-result : goal.overflow_add-result
-overflow_add-result c = let s = row_small c.args.row in omega (arith, s.tag, s.head, s.value, c.tag_size.ensures, c.length_size.ensures)
+overflow_add-result c =
+    let small = row_small c.args.row in
+    let head = rw c.length_of-length.ensures at c.length_size.ensures in
+    omega (arith, small.tag, small.head, head, c.tag_size.ensures)
 
 pub overflow_add-result-2 : goal.overflow_add-result-2
-overflow_add-result-2 c = let s = row_small c.args.row in omega (arith, s.tag, s.head, s.value, c.tag_size.ensures, c.length_size.ensures)
+overflow_add-result-2 c =
+    let small = row_small c.args.row in
+    let head = rw c.length_of-length.ensures at c.length_size.ensures in
+    omega (arith, small.tag, small.head, small.value, head, c.length_of-length.ensures, c.tag_size.ensures)

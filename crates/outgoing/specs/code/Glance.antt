@@ -1,6 +1,6 @@
 -- The shadow of the code, not to be believed but proved to be what document 01's definitions give: what it says of rows that they
 -- were seen to be right at a glance. Of rows that were not it says nothing: the stages do.
-use Rattle.std.specs.Prelude.{ℕ, ◌≡◌, true, false, cond, List}
+use Rattle.std.specs.Prelude.{ℕ, ◌≡◌, true, false, cond, List, Option}
 use Rattle.refusal.specs.Answer.{given, refused}
 use Rattle.tagset.specs.Sets.{no_tags, holds, meet}
 use Rattle.tagset.specs.declared.TagSet.{TagSet}
@@ -15,7 +15,6 @@ use Rattle.packet.specs.Rows.{rows_in}
 use Rattle.outgoing.specs.Outgoing.{right_rows, right_size}
 use Rattle.outgoing.specs.code.Staged.{row_size, rows_size, packed_by, row_fault, rows_judged, ends_in, told_in}
 use Rattle.outgoing.specs.declared.Packed.{Packed}
-use Rattle.outgoing.specs.declared.Handed.{Handed}
 
 -- a known row by its shape, the first of its tag: how many bytes its item has
 pub record PlainAs (shape : Shape) (room : ℕ) (r : RowWords) (bytes : ℕ) : Type 0 where
@@ -43,6 +42,6 @@ pub record PlainEnds (count : ℕ) (words : List ℕ) (items : ℕ) (p : Packed)
   pub packed : p ≡ packed_by items
 
 -- the whole
-pub record FitsPlainly (K : TagSet) (h : Handed) (room count : ℕ) (words : List ℕ) (p : Packed) : Type 0 where
+pub record FitsPlainly (K : TagSet) (h : Option TagSet) (room count : ℕ) (words : List ℕ) (p : Packed) : Type 0 where
   pub good : right_rows (holds K) room 0 (rows_in 0 count words) ≡ given tt
   pub fits : told_in K h count words ≡ given p

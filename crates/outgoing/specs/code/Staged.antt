@@ -1,6 +1,6 @@
 -- The shadow of the code, not to be believed but proved to be what document 01's definitions give: the writer's stages
 -- over the rows in their words, as they are walked.
-use Rattle.std.specs.Prelude.{ℕ, ◌+◌, ◌-◌, cond, List, [], ◌∷◌, length, eqb}
+use Rattle.std.specs.Prelude.{ℕ, ◌+◌, ◌-◌, cond, List, [], ◌∷◌, length, eqb, Option}
 use Rattle.refusal.specs.Answer.{Answer, given, refused, then}
 use Rattle.ber.specs.Written.{tag_bytes, length_bytes}
 use Rattle.tagset.specs.Sets.{no_tags, holds, with_tag}
@@ -13,7 +13,6 @@ use Rattle.packet.specs.declared.Ends.{Ends}
 use Rattle.packet.specs.Rows.{rows_in}
 use Rattle.outgoing.specs.Outgoing.{right_words, right_size}
 use Rattle.outgoing.specs.declared.Packed.{Packed}
-use Rattle.outgoing.specs.declared.Handed.{Handed}
 
 -- how many bytes a row's item has: tag, length in its shortest form, value
 abbrev pub row_size : RowWords → ℕ
@@ -62,5 +61,5 @@ abbrev pub sized_in : TagSet → ℕ → List ℕ → Answer Packed
 sized_in K count words = sized_by K count words (packed_by (rows_size (rows_in 0 count words)))
 
 -- and 22 before that
-abbrev pub told_in : TagSet → Handed → ℕ → List ℕ → Answer Packed
+abbrev pub told_in : TagSet → Option TagSet → ℕ → List ℕ → Answer Packed
 told_in K h count words = then (right_words h (rows_in 0 count words)) (λ _. sized_in K count words)

@@ -1,20 +1,17 @@
 -- `packet::check_ends` meets its contract.
-use borrow.Author.Tests.{eq-eqb, ne_eqb}
+use mathlib.Core.Path.{◌∙◌}
+use Rattle.base.proofs.Cases.{cases}
 use Rattle.packet.specs.Ends.{right_ends}
 use Rattle.packet.proofs.check_ends.Goals as goal
 
+pub returns-then-ends-ne2 : goal.returns-then-ends-ne2
+unfolding right_ends
+returns-then-ends-ne2 c = c.refused.ensures ∙ search cases
+
 pub returns-then-two_bytes : goal.returns-then-two_bytes
 unfolding right_ends
-returns-then-two_bytes c = rw (eq-eqb _ 2 c.if-ends-eq2.true, eq-eqb _ 1 c.if-ends-eq1.true, eq-eqb _ 2 c.if-two_bytes.true)
-
-pub returns-else-two_bytes : goal.returns-else-two_bytes
-unfolding right_ends
-returns-else-two_bytes c = rw (eq-eqb _ 2 c.if-ends-eq2.true, eq-eqb _ 1 c.if-ends-eq1.true, ne_eqb _ 2 c.if-two_bytes.false)
-
-pub returns-else-ends-eq1 : goal.returns-else-ends-eq1
-unfolding right_ends
-returns-else-ends-eq1 c = rw (eq-eqb _ 2 c.if-ends-eq2.true, ne_eqb _ 1 c.if-ends-eq1.false)
+returns-then-two_bytes c = search cases
 
 pub returns : goal.returns
 unfolding right_ends
-returns c = rw (ne_eqb _ 2 c.if-ends-eq2.false)
+returns c = c.refused-2.ensures ∙ search cases

@@ -1,49 +1,48 @@
 -- `packet::check_from` meets its contract.
-use mathlib.Core.Path.{sym, ap, ◌∙◌}
+use mathlib.Core.Path.{refl, sym, ◌∙◌}
 use native.Mathlib.Omega.{arith}
-use Rattle.refusal.proofs.Answers.{not_given}
-use Rattle.number.specs.Stored.{Bytes}
+use Rattle.refusal.proofs.Answers.{not_given, handed_on}
+use Rattle.number.proofs.Laws.{bytes_lent}
 use Rattle.tagset.proofs.Laws.{Words}
-use Rattle.packet.specs.Said.{right_said}
 use Rattle.packet.proofs.Concluding.{passes_whole, passes_refused, right_refused, right_given, places_items}
 use Rattle.packet.proofs.check_from.Goals as goal
 
-pub stopped-requires : goal.stopped-requires
-stopped-requires c = c.pass-passed.ensures.stops c.if-here-packet.true
-
-pub returns-then-here-packet : goal.returns-then-here-packet
-returns-then-here-packet c =
-    let p = c in
+pub invariant_of-walk : goal.invariant_of-walk
+invariant_of-walk c =
     record {
-      says = sym (passes_refused _ _ _ _ p.requires _ p.pass-passed.ensures _ _ _ c.stopped.ensures);
+      bytes = bytes_lent c.type_inv.packet;
+      some = c.requires.some;
+      short = c.requires.short;
+      words = record { both = refl; low = omega arith; high = omega arith };
+      knows = c.requires.known;
+    }
+
+pub returns-then-passed-packet : goal.returns-then-passed-packet
+returns-then-passed-packet c =
+    record {
+      says = sym (passes_refused _ _ _ _ c.requires _ c.pass-passed.ensures _ _ _ c.stopped.ensures);
       places = λ a f. not_given f;
     }
 
 pub concluded-requires : goal.concluded-requires
-concluded-requires c =
-    let p = c in
-    passes_whole _ _ _ _ p.requires _ p.pass-passed.ensures c.if-here-packet.false
+concluded-requires c = passes_whole _ _ _ _ c.requires _ c.pass-passed.ensures c.if-passed-packet.false
 
-pub returns-in-Refused : goal.returns-in-Refused
-returns-in-Refused c =
-    let words : Words c.args.known = (let k = c.well_formed in record { low64 = omega (arith, k); high64 = omega (arith, k) }) in
-    let bytes : Bytes c.args.packet.now = record { byte = λ i. (c.type_inv.packet i).fits } in
-    let p = c in
-    let whole = c.if-here-packet.false in
-    let w = passes_whole _ _ _ _ p.requires _ p.pass-passed.ensures whole in
-    let e = sym c.concluded.ensures ∙ ap right_said c.in-Refused.is in
+pub returns-in_err-concluded : goal.returns-in_err-concluded
+returns-in_err-concluded c =
+    let words : Words c.args.known = record { low64 = omega arith; high64 = omega arith } in
+    let w = passes_whole _ _ _ _ c.requires _ c.pass-passed.ensures c.if-passed-packet.false in
+    let e = handed_on _ _ c.from_residual.ensures.1 (λ s q. q) in
     record {
-      says = sym (right_refused _ (words) _ (bytes) _ _ w _ _ _ e);
-      places = λ a f. not_given f;
+      says = e ∙ sym (right_refused _ words _ (bytes_lent c.type_inv.packet) _ _ w _ _ _ (sym c.in_err-concluded.ensures));
+      places = λ a f. not_given (sym e ∙ f);
     }
 
-pub returns-in-Yes : goal.returns-in-Yes
-returns-in-Yes c =
-    let words : Words c.args.known = (let k = c.well_formed in record { low64 = omega (arith, k); high64 = omega (arith, k) }) in
-    let bytes : Bytes c.args.packet.now = record { byte = λ i. (c.type_inv.packet i).fits } in
-    let p = c in
-    let w = passes_whole _ _ _ _ p.requires _ p.pass-passed.ensures c.if-here-packet.false in
+pub returns : goal.returns
+returns c =
+    let words : Words c.args.known = record { low64 = omega arith; high64 = omega arith } in
+    let bytes = bytes_lent c.type_inv.packet in
+    let w = passes_whole _ _ _ _ c.requires _ c.pass-passed.ensures c.if-passed-packet.false in
     record {
-      says = sym (right_given _ (words) _ (bytes) _ _ w (sym c.concluded.ensures ∙ ap right_said c.in-Yes.is));
-      places = λ a f. places_items _ (words) _ (bytes) _ _ w;
+      says = rw (c.as_set.ensures, c.as_set-2.ensures) (sym (right_given _ words _ bytes _ _ w (sym c.in_ok-concluded.ensures)));
+      places = λ a f. places_items _ words _ bytes _ _ w;
     }

@@ -10,7 +10,3 @@ returns-then-tag-lt128 c = search cases
 pub returns-else-tag-lt128 : goal.returns-else-tag-lt128
 unfolding short_forms
 returns-else-tag-lt128 c = search cases
-
-pub returns-else-tag-gt0 : goal.returns-else-tag-gt0
-unfolding short_forms
-returns-else-tag-gt0 c = search cases

@@ -1,6 +1,6 @@
 -- The shadow of the code, not to be believed but proved to be what document 01's definitions give: what a walk comes to.
-use Rattle.std.specs.Prelude.{ℕ, ◌-◌, ◌≤◌, ◌≡◌, Bool, true, not, cond, ◌&&◌, List, [], eqb, ltb, length, take, drop, get_or}
-use Rattle.refusal.specs.Answer.{Answer, given, refused, refusal, map, then, or_else}
+use Rattle.std.specs.Prelude.{ℕ, ◌-◌, ◌≤◌, ◌≡◌, Bool, true, not, cond, ◌&&◌, List, [], eqb, ltb, length, take, drop, get_or, Result}
+use Rattle.refusal.specs.Answer.{Answer, given, refused, map, then, or_else, answer_said}
 use Rattle.number.specs.Stored.{value_of}
 use Rattle.checksum.specs.Sum.{checksum_of}
 use Rattle.tagset.specs.Sets.{no_tags, holds, size}
@@ -11,18 +11,12 @@ use Rattle.packet.specs.Pieces.{Item, walk}
 use Rattle.packet.specs.Ends.{right_ends}
 use Rattle.packet.specs.Structure.{frame, right_sum, closed}
 use Rattle.packet.specs.Verdict.{judged, body_of, no_places, places_from}
-use Rattle.packet.specs.Said.{header_at, check_said}
+use Rattle.packet.specs.Said.{header_at}
 use Rattle.packet.specs.code.Passing.{Kept, fresh_at, kept_from}
 use Rattle.packet.specs.declared.Accepted.{Accepted}
-use Rattle.packet.specs.declared.Checked.{Checked}
 use Rattle.packet.specs.declared.Ends.{Ends}
-use Rattle.packet.specs.declared.Frame.{Frame}
-use Rattle.packet.specs.declared.Frame.TheVariants as framed
 use Rattle.packet.specs.declared.Header.{Header}
-
-abbrev pub frame_said : Frame → Answer ℕ
-frame_said (framed.From at) = given at
-frame_said (framed.Refused r) = refusal r
+use Rattle.refusal.specs.declared.Refusal.{Refusal}
 
 -- where the items begin, for a good knowing set
 abbrev pub begun_by : TagSet → List ℕ → Answer ℕ
@@ -101,6 +95,6 @@ pub record Begins (K : TagSet) (p : List ℕ) (from : ℕ) (places : List ℕ) :
   pub none : places ≡ no_places
 
 -- the answer by the items, and where their values are found if they are accepted
-pub record ChecksFrom (K : TagSet) (p : List ℕ) (from : ℕ) (r : Checked) (found : List ℕ) : Type 0 where
-  pub says : check_said r ≡ map (body_of (holds K)) (then (walk 128 from (drop from p)) (λ is. then (closed p is) (judged (holds K))))
-  pub places : (a : Accepted) → check_said r ≡ given a → found ≡ places_from no_places (items_at p from)
+pub record ChecksFrom (K : TagSet) (p : List ℕ) (from : ℕ) (r : Result Accepted Refusal) (found : List ℕ) : Type 0 where
+  pub says : answer_said r ≡ map (body_of (holds K)) (then (walk 128 from (drop from p)) (λ is. then (closed p is) (judged (holds K))))
+  pub places : (a : Accepted) → answer_said r ≡ given a → found ≡ places_from no_places (items_at p from)

@@ -1,6 +1,6 @@
 -- The shadow of the code, not to be believed but proved to be what document 01's definitions give: what the walk at a glance keeps of
 -- the items that it has passed, one after another from the left.
-use Rattle.std.specs.Prelude.{ℕ, ◌+◌, ◌-◌, ◌^◌, ◌<◌, ◌≤◌, ◌≡◌, Bool, false, cond, ◌&&◌, ◌||◌, List, [], ◌∷◌, leb, eqb, length, drop, get_or, set}
+use Rattle.std.specs.Prelude.{ℕ, ◌+◌, ◌-◌, ◌^◌, ◌<◌, ◌≤◌, ◌≡◌, Bool, false, cond, ◌&&◌, ◌||◌, Option, Some, None, IfSome, List, [], ◌∷◌, leb, eqb, length, drop, get_or, set}
 use Rattle.std.specs.Int.Bits.{bit_or}
 use Rattle.refusal.specs.Answer.{Answer, given, refused, map}
 use Rattle.ber.specs.Written.{tag_bytes, length_bytes}
@@ -17,6 +17,7 @@ use Rattle.packet.specs.Verdict.{one_byte, found_at}
 use Rattle.packet.specs.code.Headers.{header_of, item_by}
 use Rattle.packet.specs.declared.Header.{Header}
 use Rattle.packet.specs.declared.Glance.{Glance}
+use Rattle.packet.specs.declared.Noted.{Noted}
 use Rattle.packet.specs.declared.Passed.{Passed}
 
 -- by how many bytes what stands before a value is longer than its shortest form
@@ -82,10 +83,17 @@ asks_close tag size = leb 128 (bit_or tag size) || eqb size 0
 abbrev pub mask_at : List ℕ → ℕ → ℕ
 mask_at p at = cond (asks_close (get_or p at 0) (get_or p (at + 1) 0)) 128 (get_or mask_column (get_or p at 0) 0)
 
--- what a glance at a place of a packet says: the item, or by a place past the packet that there is none
-pub record Glances (p : List ℕ) (at : ℕ) (g : Glance) : Type 0 where
-  pub item : g.past ≤ length p → SeenAt p at g
-  pub none : length p < g.past → NoItem p at × (g.empty ≡ false)
+-- what any glance at a place of a packet says: the item, or that there is none; and one that says only an item of some bytes
+abbrev pub SaidAt : List ℕ → ℕ → Option Glance → Type 0
+SaidAt p at (Some g) = SeenAt p at g
+SaidAt p at None = NoItem p at
+
+pub record PlainSeen (p : List ℕ) (at : ℕ) (g : Glance) : Type 0 where
+  pub seen : SeenAt p at g
+  pub some : g.empty ≡ false
+
+abbrev pub PlainAt : List ℕ → ℕ → Option Glance → Type 0
+PlainAt p at r = IfSome r (PlainSeen p at)
 
 -- a known tag is counted, and noted where its item is fit
 abbrev pub counted : TagSet → ℕ → ℕ
@@ -96,14 +104,7 @@ noted K s t fits = cond (holds K t && fits) (with_tag s t) s
 
 pub record Notes (words before : List ℕ) (t : ℕ) (fits : Bool) (r : ℕ) (after : List ℕ) : Type 0 where
   pub count : r ≡ counted (set_of words) t
-  pub two : TwoWords after
   pub set : set_of after ≡ noted (set_of words) (set_of before) t fits
-
--- a glance that notes a known tag where there are no bytes
-pub record GlancesNoting (p words before : List ℕ) (at : ℕ) (g : Glance) (after : List ℕ) : Type 0 where
-  pub seen : Glances p at g
-  pub two : TwoWords after
-  pub tags : set_of after ≡ noted (set_of words) (set_of before) g.tag g.empty
 
 -- what is kept, with where the values are found, the tags noted, and those of them that have no bytes
 pub record Kept : Type 0 where
@@ -114,6 +115,9 @@ pub record Kept : Type 0 where
 
 abbrev pub kept_by : Passed → List ℕ → TagSet → TagSet → Kept
 kept_by r places present withdrawn = record { passed = r; places = places; present = present; withdrawn = withdrawn }
+
+abbrev pub kept_in : Passed → List ℕ → Noted → Kept
+kept_in r places n = kept_by r places (set_of n.present) (set_of n.withdrawn)
 
 abbrev pub with_header : TagSet → Kept → Header → Bool → Kept
 with_header K k h f =
@@ -154,16 +158,13 @@ abbrev pub passed_with : TagSet → Passed → Glance → Passed
 passed_with K r g =
     record { here = g.past; count = r.count + 1; last = r.here; longer = r.longer + g.longer; known = r.known + counted K g.tag }
 
+abbrev pub with_plain : TagSet → Kept → Glance → Kept
+with_plain K k g = kept_by (passed_with K k.passed g) (set k.places g.tag g.place) (noted K k.present g.tag g.fit) k.withdrawn
+
 abbrev pub with_glance : TagSet → Kept → Glance → Kept
 with_glance K k g =
     kept_by (passed_with K k.passed g) (set k.places g.tag g.place) (noted K k.present g.tag g.fit)
     (noted K k.withdrawn g.tag g.empty)
-
-pub record Keeps (words places present : List ℕ) (r : Passed) (g : Glance) (r' : Passed) (places' present' : List ℕ) : Type 0 where
-  pub passed : r' ≡ passed_with (set_of words) r g
-  pub found : places' ≡ set places g.tag g.place
-  pub two : TwoWords present'
-  pub tags : set_of present' ≡ noted (set_of words) (set_of present) g.tag g.fit
 
 -- the sums that a walk keeps do not run over
 pub record Counted (r : Passed) : Type 0 where
@@ -171,17 +172,20 @@ pub record Counted (r : Passed) : Type 0 where
   pub fewer : r.known ≤ r.count
   pub less : r.longer ≤ r.here
 
+-- an item has room in what is kept
+pub record HasRoom (r : Passed) (g : Glance) : Type 0 where
+  pub tag : g.tag < 128
+  pub place : g.place ≤ 8192
+  pub few : r.count ≤ 128
+  pub fewer : r.known ≤ r.count
+  pub less : r.longer + g.longer ≤ 8192
+
 -- a walk on its way, from something kept on: what is kept with the items ahead is what is kept of all
 pub record Going (K : TagSet) (p : List ℕ) (fresh k : Kept) : Type 0 where
   pub counted : Counted k.passed
   pub on : fresh.passed.here ≤ k.passed.here
   pub goes : kept K k (walk (128 - k.passed.count) k.passed.here (drop k.passed.here p))
       ≡ kept K fresh (walk (128 - fresh.passed.count) fresh.passed.here (drop fresh.passed.here p))
-
--- a walk over items that need no closer look: none of them has no bytes
-pub record PassesPlain (K : TagSet) (p places present : List ℕ) (r r' : Passed) (places' present' : List ℕ) : Type 0 where
-  pub two : TwoWords present'
-  pub going : (w : TagSet) → Going K p (kept_by r places (set_of present) w) (kept_by r' places' (set_of present') w)
 
 -- where a walk that began with something kept has come to: what is kept with the items ahead is what is kept of all
 pub record Passes (K : TagSet) (p : List ℕ) (fresh k : Kept) : Type 0 where

@@ -6,17 +6,16 @@ use Rattle.tagset.proofs.Laws.{Words}
 use Rattle.reader.proofs.Laws.{held_below, byte_known, byte_unknown}
 use Rattle.reader.proofs.byte_for.Goals as goal
 
-pub bounds-column-at : goal.bounds-column-at
-bounds-column-at c =
+pub bounds-shapes-tag : goal.bounds-shapes-tag
+bounds-shapes-tag c =
     let words : Words c.args.known = record { low64 = omega (arith, c.well_formed); high64 = omega (arith, c.well_formed) } in
-    held_below _ (words) _ (sym c.has.ensures ∙ c.if-has.true)
+    held_below _ words _ (sym c.has.ensures ∙ c.if-has.true)
 
 pub returns-then-has : goal.returns-then-has
 returns-then-has c =
     let words : Words c.args.known = record { low64 = omega (arith, c.well_formed); high64 = omega (arith, c.well_formed) } in
-    let s = c in
-    let held = sym s.has.ensures ∙ s.if-has.true in
-    c.wide.ensures.0 ∙ (ap (λ l. get_or l s.args.tag 0) s.requires ∙ byte_known _ (words) _ held)
+    c.from.ensures ∙ (ap (λ l. get_or l c.args.tag 0) c.args.shapes.now.of_the_catalogue
+    ∙ byte_known _ words _ (sym c.has.ensures ∙ c.if-has.true))
 
 pub returns : goal.returns
 returns c = sym (byte_unknown _ _ (sym c.has.ensures ∙ c.if-has.false))

@@ -1,56 +1,28 @@
 -- `reader::read` meets its contract.
-use mathlib.Core.Path.{◌≡◌, refl, sym, ap, ◌∙◌}
-use native.Mathlib.Omega.{arith}
-use Prim.Native.Nat.{◌≤◌}
-use mathlib.Core.Bool.{true}
-use lib.ListN.{length}
-use Rattle.number.specs.Stored.{Bytes}
-use Rattle.knowing.specs.Good.{good}
-use Rattle.packet.specs.Said.{check_said}
-use Rattle.reader.proofs.Answers.{not_good, short_table, refused_packet, Taken, taken, few, may_fill, filled}
+use mathlib.Core.Path.{sym, ◌∙◌}
+use Rattle.number.proofs.Laws.{bytes_lent}
+use Rattle.refusal.proofs.Answers.{handed_on}
+use Rattle.reader.proofs.Filling.{few}
+use Rattle.reader.proofs.Answers.{not_good, short_table, refused_packet, may_fill, table_read}
 use Rattle.reader.proofs.read.Goals as goal
 
+pub returns-then-not-is_good : goal.returns-then-not-is_good
+returns-then-not-is_good c = not_good (sym c.is_good.ensures ∙ c.if-not-is_good.true) c.refused.ensures
+
 pub returns-then-short : goal.returns-then-short
-returns-then-short c = short_table _ _ _ (sym c.is_good.ensures ∙ c.if-is_good.true) c.if-short.true _ c.refused.ensures
+returns-then-short c = short_table (sym c.is_good.ensures ∙ c.if-not-is_good.false) c.if-short.true c.refused-then-short.ensures
+
+pub returns-in_err-accepted : goal.returns-in_err-accepted
+returns-in_err-accepted c =
+    refused_packet _ _ _ (sym c.is_good.ensures ∙ c.if-not-is_good.false) c.if-short.false (sym c.in_err-accepted.ensures)
+    (handed_on _ _ c.from_residual.ensures.1 (λ s q. q))
 
 pub fill-requires : goal.fill-requires
 fill-requires c =
-    let known : good c.args.known ≡ true = sym c.is_good.ensures ∙ c.if-is_good.true in
-    let room : 512 ≤ length c.args.table.now = c.if-short.false in
-    let bytes : Bytes c.args.packet.now = record { byte = λ i. (c.type_inv.packet i).fits } in
-    let accepts : Taken c.args.known c.args.packet.now c.args.table.now (known) (room) c.in-Accepted.accepted =
-    taken _ _ _ (known) (room) _ (sym c.check.ensures ∙ ap check_said c.in-Accepted.is) in
-    (may_fill _ _ _ (known) (room) (bytes) _ (accepts), room)
-
-pub overflow_mul-count : goal.overflow_mul-count
-overflow_mul-count c =
-    let known : good c.args.known ≡ true = sym c.is_good.ensures ∙ c.if-is_good.true in
-    let room : 512 ≤ length c.args.table.now = c.if-short.false in
-    let bytes : Bytes c.args.packet.now = record { byte = λ i. (c.type_inv.packet i).fits } in
-    let accepts : Taken c.args.known c.args.packet.now c.args.table.now (known) (room) c.in-Accepted.accepted =
-    taken _ _ _ (known) (room) _ (sym c.check.ensures ∙ ap check_said c.in-Accepted.is) in
-    omega (
-      arith,
-      few _ _ _ (known) (room)
-          (bytes) _ (accepts),
-    )
-
-pub returns-in-Refused : goal.returns-in-Refused
-returns-in-Refused c =
-    refused_packet _ _ _ (sym c.is_good.ensures
-    ∙ c.if-is_good.true) c.if-short.false _ _ _
-    (sym c.check.ensures ∙ ap check_said c.in-Refused.is) _ refl
-
-pub returns-in-Accepted : goal.returns-in-Accepted
-returns-in-Accepted c =
-    let known : good c.args.known ≡ true = sym c.is_good.ensures ∙ c.if-is_good.true in
-    let room : 512 ≤ length c.args.table.now = c.if-short.false in
-    let bytes : Bytes c.args.packet.now = record { byte = λ i. (c.type_inv.packet i).fits } in
-    let accepts : Taken c.args.known c.args.packet.now c.args.table.now (known) (room) c.in-Accepted.accepted =
-    taken _ _ _ (known) (room) _ (sym c.check.ensures ∙ ap check_said c.in-Accepted.is) in
-    let d = c in
-    filled _ _ _ (known) (room) (bytes) _ (accepts) _ _ c.fill.ensures
-    c.clear.ensures
+    let by = bytes_lent c.type_inv.packet in
+    let accepts = may_fill (sym c.in_ok-accepted.ensures) by in
+    (accepts, few by accepts, c.if-short.false)
 
 pub returns : goal.returns
-returns c = not_good _ _ _ (sym c.is_good.ensures ∙ c.if-is_good.false) _ c.refused-2.ensures
+returns c =
+    table_read _ _ _ (sym c.is_good.ensures ∙ c.if-not-is_good.false) c.if-short.false (sym c.in_ok-accepted.ensures) c.fill.ensures

@@ -1,5 +1,5 @@
 -- The shadow of the code, not to be believed but proved to be what document 01's definitions give: how a table is filled.
-use Rattle.std.specs.Prelude.{ℕ, ◌+◌, ◌-◌, ◌*◌, ◌/◌, ◌%◌, ◌^◌, ◌≤◌, ◌≡◌, Bool, true, cond, List, [], ◌∷◌, eqb}
+use Rattle.std.specs.Prelude.{ℕ, ◌+◌, ◌-◌, ◌*◌, ◌/◌, ◌%◌, ◌^◌, ◌≤◌, ◌≡◌, Bool, true, cond, List, [], ◌∷◌, length, eqb}
 use Rattle.std.specs.Int.Bits.{bit_and}
 use lib.Seq.{sets}
 use Rattle.refusal.specs.Answer.{Answer, given, or_else}
@@ -57,8 +57,9 @@ or_none = or_else [] (λ is. is)
 abbrev pub items_of : TagSet → List ℕ → List Item
 items_of K p = or_none (received K p)
 
--- a packet that a receiver accepts, whose items begin at a place, which is past the key
-pub record AcceptsFrom (K : TagSet) (p : List ℕ) (from : ℕ) : Type 0 where
+-- a packet that a receiver accepts, so many of whose items begin at a place, which is past the key
+pub record AcceptsFrom (K : TagSet) (p : List ℕ) (from count : ℕ) : Type 0 where
   pub begins : ItemsFrom p from
   pub accepted : received K p ≡ given begins.items
   pub past : 16 ≤ from
+  pub counted : count ≡ length begins.items

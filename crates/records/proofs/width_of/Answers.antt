@@ -3,8 +3,8 @@ use mathlib.Core.Path.{sym, ◌∙◌}
 use Rattle.records.proofs.Laws.{width_known, width_absent}
 use Rattle.records.proofs.width_of.Goals as goal
 
-pub returns-in-Known : goal.returns-in-Known
-returns-in-Known c = width_known _ _ (sym c.item_of.ensures ∙ c.in-Known.is)
+pub returns-in-Some : goal.returns-in-Some
+returns-in-Some c = width_known _ _ (sym c.item_of.ensures ∙ c.in-Some.is)
 
-pub returns-in-Absent : goal.returns-in-Absent
-returns-in-Absent c = width_absent _ (sym c.item_of.ensures ∙ c.in-Absent.is)
+pub returns-in-None : goal.returns-in-None
+returns-in-None c = width_absent _ (sym c.item_of.ensures ∙ c.in-None.is)

@@ -1,21 +1,15 @@
 -- `relay::forward` meets its contract.
-use mathlib.Core.Path.{refl, sym, ap, ◌∙◌}
+use mathlib.Core.Path.{sym}
 use Rattle.number.proofs.Laws.{bytes_lent}
-use Rattle.packet.specs.Said.{check_said}
+use Rattle.refusal.proofs.Answers.{handed_on}
 use Rattle.relay.proofs.Sending.{forward_refused, longer-by, forward_sent}
 use Rattle.relay.proofs.forward.Goals as goal
 
+pub returns-in_err-accepted : goal.returns-in_err-accepted
+returns-in_err-accepted c = forward_refused _ _ _ _ _ _ (sym c.in_err-accepted.ensures) _ (handed_on _ _ c.from_residual.ensures.1 (λ s q. q))
+
 pub send-requires : goal.send-requires
-send-requires c =
-    let s = c in
-    let e = sym s.check.ensures ∙ ap check_said c.in-Accepted.is in
-    longer-by _ _ (bytes_lent s.type_inv.packet) _ e
+send-requires c = longer-by _ _ (bytes_lent c.type_inv.packet) _ (sym c.in_ok-accepted.ensures)
 
-pub returns-in-Refused : goal.returns-in-Refused
-returns-in-Refused c = forward_refused _ _ _ _ _ _ (sym c.check.ensures ∙ ap check_said c.in-Refused.is) _ refl
-
-pub returns-in-Accepted : goal.returns-in-Accepted
-returns-in-Accepted c =
-    let s = c in
-    let e = sym s.check.ensures ∙ ap check_said s.in-Accepted.is in
-    forward_sent _ _ (bytes_lent s.type_inv.packet) _ e _ _ _ c.send.ensures
+pub returns : goal.returns
+returns c = forward_sent _ _ (bytes_lent c.type_inv.packet) _ (sym c.in_ok-accepted.ensures) _ _ _ c.send.ensures

@@ -1,6 +1,6 @@
 -- `relay::send` meets its contract.
 use native.Mathlib.Omega.{arith}
-use mathlib.Core.Path.{refl, sym, ◌∙◌}
+use mathlib.Core.Path.{sym, ◌∙◌}
 use Rattle.base.proofs.Putting.{puts_as, front_room}
 use Rattle.number.proofs.Laws.{bytes_lent}
 use Rattle.laws.proofs.Shortest.{canonical_same}
@@ -16,40 +16,28 @@ overflow_sub-items-2 c = omega (arith, c.requires.sizes)
 
 pub overflow_add-size : goal.overflow_add-size
 overflow_add-size c =
-    let s = c in
-    let long = packet_size _ (items_left s.requires) c.length_size.ensures in
-    omega (arith, long, small _ _ s.requires.walks (bytes_lent c.type_inv.packet))
+    omega (arith, packet_size _ (items_left c.requires) c.length_size.ensures, small _ _ c.requires.walks (bytes_lent c.type_inv.packet))
 
 pub overflow_add-size-2 : goal.overflow_add-size-2
 overflow_add-size-2 c =
-    let s = c in
-    let long = packet_size _ (items_left s.requires) c.length_size.ensures in
-    omega (arith, long, small _ _ s.requires.walks (bytes_lent c.type_inv.packet))
+    omega (arith, packet_size _ (items_left c.requires) c.length_size.ensures, small _ _ c.requires.walks (bytes_lent c.type_inv.packet))
 
 pub returns-then-out-size : goal.returns-then-out-size
-returns-then-out-size c = too_short (packet_size _ (items_left c.requires) c.length_size.ensures) c.if-out-size.true refl
+returns-then-out-size c = too_short (packet_size _ (items_left c.requires) c.length_size.ensures) c.if-out-size.true c.refused.ensures
 
 pub put_anew-requires : goal.put_anew-requires
-put_anew-requires c =
-    let s = c in
-    let pre = s.requires in
-    record {
-      walks = pre.walks;
-      whole = packet_size _ (items_left pre) s.length_size.ensures;
-      part = items_left pre;
-      fits = c.if-out-size.false;
-    }
+put_anew-requires c = record {
+  walks = c.requires.walks;
+  whole = packet_size _ (items_left c.requires) c.length_size.ensures;
+  part = items_left c.requires;
+  fits = c.if-out-size.false;
+}
 
 pub returns-then-size-packet : goal.returns-then-size-packet
 returns-then-size-packet c =
-    let s = c in
-    let pre = s.requires in
-    let long = packet_size _ (items_left pre) s.length_size.ensures in
-    let by = bytes_lent s.type_inv.packet in
-    let same = canonical_same _ _ by pre.walks.found (sym long ∙ c.if-size-packet.true) in
-    all_sent long (puts_as (sym same) (front_room long s.if-out-size.false) c.put_text.ensures)
+    let long = packet_size _ (items_left c.requires) c.length_size.ensures in
+    let same = canonical_same _ _ (bytes_lent c.type_inv.packet) c.requires.walks.found (sym long ∙ c.if-size-packet.true) in
+    all_sent long (puts_as (sym same) (front_room long c.if-out-size.false) c.put_text.ensures)
 
 pub returns-else-size-packet : goal.returns-else-size-packet
-returns-else-size-packet c =
-    let s = c in
-    all_sent (packet_size _ (items_left s.requires) s.length_size.ensures) c.put_anew.ensures
+returns-else-size-packet c = all_sent (packet_size _ (items_left c.requires) c.length_size.ensures) c.put_anew.ensures

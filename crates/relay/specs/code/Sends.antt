@@ -1,12 +1,11 @@
 -- The shadow of the code, not to be believed but proved to be what document 01's definitions give: an accepted packet
 -- sent on.
-use Rattle.std.specs.Prelude.{ℕ, ◌+◌, ◌≤◌, ◌≡◌, cond, List, ◌++◌, ltb, length, drop}
-use Rattle.refusal.specs.Answer.{Answer, given, refused}
+use Rattle.std.specs.Prelude.{ℕ, ◌+◌, ◌≤◌, ◌≡◌, cond, List, ◌++◌, ltb, length, drop, Result}
+use Rattle.refusal.specs.Answer.{Answer, given, refused, answer_said}
 use Rattle.packet.specs.Structure.{structure, ItemsFrom}
 use Rattle.packet.specs.Encode.{pieces_in, items_bytes, canonical}
 use Rattle.writer.specs.declared.Written.{Written}
-use Rattle.relay.specs.Forwards.{forward_said}
-use Rattle.relay.specs.declared.Forwarding.{Forwarding}
+use Rattle.refusal.specs.declared.Refusal.{Refusal}
 
 -- the items of a packet, as they are sent on
 abbrev pub items_for : List ℕ → List ℕ
@@ -32,6 +31,6 @@ sent_answer q o = cond (ltb (length o) (length q)) (refused 18 0 0) (given (reco
 abbrev pub sent_output : List ℕ → List ℕ → List ℕ
 sent_output q o = cond (ltb (length o) (length q)) o (q ++ drop (length q) o)
 
-pub record Sends (q o : List ℕ) (r : Forwarding) (o' : List ℕ) : Type 0 where
-  pub answer : forward_said r ≡ sent_answer q o
+pub record Sends (q o : List ℕ) (r : Result Written Refusal) (o' : List ℕ) : Type 0 where
+  pub answer : answer_said r ≡ sent_answer q o
   pub output : o' ≡ sent_output q o

@@ -22,8 +22,7 @@ returns-then-is_outside c =
     let outside_is : beyond low_end high_end c.args.value ≡ c.is_outside.result = sym (rw (to_z-of_z (value_fits)) at c.is_outside.ensures) in
     let n = c in
     let l = n in
-    let e = c.refuse.ensures in
-    rw (sent_21 _ _ l.requires _ (lengths ∙ n.if-is_height_length.true) (outside_is ∙ c.if-is_outside.true), e.0, e.1, e.2)
+    rw (sent_21 _ _ l.requires _ (lengths ∙ n.if-is_height_length.true) (outside_is ∙ c.if-is_outside.true)) c.refused.ensures
 
 pub height_code-requires : goal.height_code-requires
 unfolding high_end low_end
@@ -58,5 +57,4 @@ pub returns : goal.returns
 returns c =
     let lengths : length_allowed c.args.tag c.args.length ≡ c.is_height_length.result = height_lengths _ _ c.requires ∙ sym c.is_height_length.ensures in
     let l = c in
-    let e = c.refuse-2.ensures in
-    rw (sent_19 _ _ l.requires _ (lengths ∙ c.if-is_height_length.false), e.0, e.1, e.2)
+    rw (sent_19 _ _ l.requires _ (lengths ∙ c.if-is_height_length.false)) c.refused-2.ensures

@@ -23,13 +23,11 @@ returns-then-is_height_length c =
     let lengths : length_allowed c.args.tag c.args.length ≡ c.is_height_length.result = height_lengths _ _ c.requires ∙ sym c.is_height_length.ensures in
     let n = c in
     let l = n in
-    let e = c.refuse.ensures in
     let in-reach = sym n.is_in_reach.ensures ∙ c.if-is_in_reach.false in
-    rw (height_20 _ _ l.requires _ (lengths ∙ n.if-is_height_length.true) in-reach, e.0, e.1, e.2)
+    rw (height_20 _ _ l.requires _ (lengths ∙ n.if-is_height_length.true) in-reach) c.refused.ensures
 
 pub returns : goal.returns
 returns c =
     let lengths : length_allowed c.args.tag c.args.length ≡ c.is_height_length.result = height_lengths _ _ c.requires ∙ sym c.is_height_length.ensures in
     let l = c in
-    let e = c.refuse-2.ensures in
-    rw (height_19 _ _ l.requires _ (lengths ∙ c.if-is_height_length.false), e.0, e.1, e.2)
+    rw (height_19 _ _ l.requires _ (lengths ∙ c.if-is_height_length.false)) c.refused-2.ensures

@@ -4,11 +4,8 @@ use Rattle.base.proofs.Putting.{no_room}
 use Rattle.spelling.proofs.Putting.{wrote_puts}
 use Rattle.spelling.proofs.put_decimal.Goals as goal
 
-pub returns-then-not-fits : goal.returns-then-not-fits
-returns-then-not-fits c = no_room _ _ _ _ refl (c.decimal_fits-fits.ensures.1 c.if-not-fits.true)
-
-pub write_decimal-end-requires : goal.write_decimal-end-requires
-write_decimal-end-requires c = record { fits = c.decimal_fits-fits.ensures.0 c.if-not-fits.false }
+pub returns-then-not-decimal_fits : goal.returns-then-not-decimal_fits
+returns-then-not-decimal_fits c = no_room _ _ _ _ refl (c.decimal_fits.ensures.1 c.if-not-decimal_fits.true)
 
 pub returns : goal.returns
-returns c = wrote_puts c.write_decimal-end.ensures
+returns c = wrote_puts c.write_decimal.ensures

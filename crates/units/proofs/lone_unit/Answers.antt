@@ -3,22 +3,22 @@ use Rattle.base.proofs.Cases.{cases}
 use Rattle.units.specs.code.BySets.{lone_unit}
 use Rattle.units.proofs.lone_unit.Goals as goal
 
-pub returns-then-tag-eq2 : goal.returns-then-tag-eq2
+pub returns-in-2 : goal.returns-in-2
 unfolding lone_unit
-returns-then-tag-eq2 c = search cases
+returns-in-2 c = search cases
 
-pub returns-then-tag-eq37 : goal.returns-then-tag-eq37
+pub returns-in-37 : goal.returns-in-37
 unfolding lone_unit
-returns-then-tag-eq37 c = search cases
+returns-in-37 c = search cases
 
-pub returns-then-tag-eq39 : goal.returns-then-tag-eq39
+pub returns-in-39 : goal.returns-in-39
 unfolding lone_unit
-returns-then-tag-eq39 c = search cases
+returns-in-39 c = search cases
 
-pub returns-then-tag-eq55 : goal.returns-then-tag-eq55
+pub returns-in-55 : goal.returns-in-55
 unfolding lone_unit
-returns-then-tag-eq55 c = search cases
+returns-in-55 c = search cases
 
-pub returns : goal.returns
+pub returns-in_default : goal.returns-in_default
 unfolding lone_unit
-returns c = search cases
+returns-in_default c = search cases

@@ -1,32 +1,21 @@
 -- `walker::value_at` meets its contract.
-use Prim.Native.Nat.{◌+◌, ◌-◌}
-use mathlib.Core.Path.{◌≡◌, refl, ap, ◌∙◌}
+use mathlib.Core.Path.{refl, ◌∙◌}
 use native.Mathlib.Omega.{arith}
-use lib.ListN.{take, drop}
+use Rattle.base.proofs.Parts.{part_lent}
+use Rattle.number.proofs.Laws.{bytes_lent}
 use Rattle.walker.proofs.Headers.{part_said, item_inside}
 use Rattle.walker.proofs.value_at.Goals as goal
 
-pub overflow_add-end : goal.overflow_add-end
-overflow_add-end c =
-    omega (
-      arith,
-      item_inside _ _ c.item_at.result _ c.item_at.ensures
-          c.in-Item.is (record { byte = λ i. (c.type_inv.packet i).fits }) _ refl,
-      c.well_formed,
-    )
+pub overflow_add-result : goal.overflow_add-result
+overflow_add-result c = omega (arith, item_inside _ _ _ _ c.item_at.ensures c.in-Ok.is (bytes_lent c.type_inv.packet) _ refl)
 
 pub slice_bounds-result-end : goal.slice_bounds-result-end
-slice_bounds-result-end c =
-    item_inside _ _ c.item_at.result _ c.item_at.ensures
-    c.in-Item.is (record { byte = λ i. (c.type_inv.packet i).fits }) _ refl
+slice_bounds-result-end c = item_inside _ _ _ _ c.item_at.ensures c.in-Ok.is (bytes_lent c.type_inv.packet) _ refl
 
-pub returns-in-Item : goal.returns-in-Item
-returns-in-Item c =
-    let i = c.in-Item.item in
-    let k : i.place + i.size - i.place ≡ i.size = omega arith in
-    ap (λ n. take n (drop i.place c.args.packet.now)) k
-    ∙ part_said _ _ c.item_at.result _ c.item_at.ensures
-    c.in-Item.is
+pub returns-in-Ok : goal.returns-in-Ok
+returns-in-Ok c =
+    let item = c.in-Ok.item in
+    part_lent c.args.packet.now item.place item.size ∙ part_said _ _ _ _ c.item_at.ensures c.in-Ok.is
 
-pub returns-in-Refused : goal.returns-in-Refused
-returns-in-Refused c = part_said _ _ c.item_at.result _ c.item_at.ensures c.in-Refused.is
+pub returns-in-Err : goal.returns-in-Err
+returns-in-Err c = part_said _ _ _ _ c.item_at.ensures c.in-Err.is

@@ -1,16 +1,8 @@
--- The walker keeps the packet and the words, and stands at the item of the number that the loop has reached.
-use Rattle.std.proofs.Common.{◌≡◌, ◌-◌, ◌≤◌}
-use Rattle.tagset.specs.Sets.{knowing}
+-- The walker keeps the packet and the set, and stands at the item of the number that the loop has reached.
+use Rattle.std.proofs.Common.{◌≡◌}
 use Rattle.walker.specs.Steps.{place_number}
 use Rattle.walker.proofs.value_number.Given as goal
 
-abbrev pub invariant-loop-i : goal.invariant-loop-i
-invariant-loop-i l =
-    (l.i ≤ l.k)
-    × (l.w.packet.now ≡ l.packet)
-    × (l.w.low ≡ l.low)
-    × (l.w.high ≡ l.high)
-    × (l.w.at ≡ place_number (knowing l.low l.high) l.packet l.i)
-
-abbrev pub decreases-loop-i : goal.decreases-loop-i
-decreases-loop-i l = l.k - l.i
+abbrev pub invariant-loop : goal.invariant-loop
+invariant-loop l =
+    (l.w.packet.now ≡ l.packet) × (l.w.known ≡ l.fn.known) × (l.w.at ≡ place_number l.fn.known l.packet l.counter)

@@ -1,59 +1,46 @@
 -- `writer::put_header` meets its contract.
 use native.Mathlib.Omega.{arith}
-use Prim.Native.Nat.{◌+◌, ◌≤◌}
+use Prim.Native.Nat.{ℕ, ◌+◌, ◌<◌, ◌≤◌}
 use mathlib.Core.Path.{◌≡◌, sym}
-use mathlib.Core.List.{[], ◌∷◌, ◌++◌}
+use mathlib.Core.List.{List, [], ◌∷◌, ◌++◌}
 use lib.ListN.{length, length-set}
-use Rattle.base.specs.Putting.{Wrote}
+use Rattle.base.specs.Putting.{Puts, Room, Wrote}
 use Rattle.base.proofs.Putting.{room_of, room_first, room_after, puts_wrote, wrote_then, wrote_as}
 use Rattle.ber.specs.Written.{tag_bytes, length_bytes}
 use Rattle.ber.proofs.Forms.{tag_one, length_one}
 use Rattle.writer.proofs.Pieces.{two_wrote}
 use Rattle.writer.proofs.put_header.Goals as goal
 
+-- a byte each
+module _ {tag size : ℕ} (some : 0 < tag) (t : tag < 128) (s : size < 128) where
+  short : tag_bytes tag ++ length_bytes size ≡ tag ∷ size ∷ []
+  short = rw (tag_one _ some t, length_one _ s)
+
+  short_fits : {o : List ℕ} {at : ℕ} → Room o at (tag_bytes tag ++ length_bytes size) → at + 2 ≤ length o
+  short_fits h = (room_of (sym short) h).fits
+
 pub bounds-out-at : goal.bounds-out-at
-bounds-out-at c =
-    let short : (let a = c.args in tag_bytes a.tag ++ length_bytes a.size ≡ a.tag ∷ a.size ∷ []) =
-    rw (tag_one _ c.requires.0 c.if-tag-lt128.true, length_one _ c.if-size-lt128.true) in
-    let fits : c.args.at + 2 ≤ length c.args.out.now = (room_of (sym (short)) c.requires.1).fits in
-    omega (arith, fits)
+bounds-out-at c = omega (arith, short_fits c.requires.0 c.if-tag-lt128.true c.if-size-lt128.true c.requires.1)
 
 pub bounds-out-at-then-size-lt128 : goal.bounds-out-at-then-size-lt128
 bounds-out-at-then-size-lt128 c =
-    let short : (let a = c.args in tag_bytes a.tag ++ length_bytes a.size ≡ a.tag ∷ a.size ∷ []) =
-    rw (tag_one _ c.requires.0 c.if-tag-lt128.true, length_one _ c.if-size-lt128.true) in
-    let fits : c.args.at + 2 ≤ length c.args.out.now = (room_of (sym (short)) c.requires.1).fits in
-    simp length-set (omega (arith, fits))
+    simp length-set (omega (arith, short_fits c.requires.0 c.if-tag-lt128.true c.if-size-lt128.true c.requires.1))
 
 pub returns-then-size-lt128 : goal.returns-then-size-lt128
 returns-then-size-lt128 c =
-    let short : (let a = c.args in tag_bytes a.tag ++ length_bytes a.size ≡ a.tag ∷ a.size ∷ []) =
-    rw (tag_one _ c.requires.0 c.if-tag-lt128.true, length_one _ c.if-size-lt128.true) in
-    let fits : c.args.at + 2 ≤ length c.args.out.now = (room_of (sym (short)) c.requires.1).fits in
-    wrote_as (sym (short)) (two_wrote _ _ _ _ (fits))
+    wrote_as (sym (short c.requires.0 c.if-tag-lt128.true c.if-size-lt128.true))
+    (two_wrote _ _ _ _ (short_fits c.requires.0 c.if-tag-lt128.true c.if-size-lt128.true c.requires.1))
 
 pub overflow_add-after : goal.overflow_add-after
-overflow_add-after c =
-    let tagged : (let a = c.args in Wrote a.out.now a.at (tag_bytes a.tag) (a.at + c.put_tag.result) c.put_tag.new.out) =
-    puts_wrote (room_first _ c.requires.1) c.put_tag.ensures in
-    let t = c in
-    omega (arith, tagged.inside, t.well_formed)
+overflow_add-after c = omega (arith, (puts_wrote (room_first _ c.requires.1) c.put_tag.ensures).inside, c.well_formed)
+
+-- more, one after the other
+both : {o o₁ o₂ : List ℕ} {at n k : ℕ} {bs cs : List ℕ} → Room o at (bs ++ cs) → Puts o at bs n o₁ → Puts o₁ (at + n) cs k o₂
+    → Wrote o at (bs ++ cs) (at + n + k) o₂
+both h p q = let w = puts_wrote (room_first _ h) p in wrote_then w (puts_wrote (room_after w h) q)
 
 pub overflow_add-result-2 : goal.overflow_add-result-2
-overflow_add-result-2 c =
-    let tagged : (let a = c.args in Wrote a.out.now a.at (tag_bytes a.tag) (a.at + c.put_tag.result) c.put_tag.new.out) =
-    puts_wrote (room_first _ c.requires.1) c.put_tag.ensures in
-    let both : (let t = c in let a = t.args in
-    Wrote a.out.now a.at (tag_bytes a.tag ++ length_bytes a.size) (a.at + t.put_tag.result + c.put_length.result) c.put_length.new.out) =
-    (let t = c in wrote_then (tagged) (puts_wrote (room_after (tagged) t.requires.1) c.put_length.ensures)) in
-    let l = c in
-    omega (arith, both.inside, l.well_formed)
+overflow_add-result-2 c = omega (arith, (both c.requires.1 c.put_tag.ensures c.put_length.ensures).inside, c.well_formed)
 
 pub returns : goal.returns
-returns c =
-    let tagged : (let a = c.args in Wrote a.out.now a.at (tag_bytes a.tag) (a.at + c.put_tag.result) c.put_tag.new.out) =
-    puts_wrote (room_first _ c.requires.1) c.put_tag.ensures in
-    let both : (let t = c in let a = t.args in
-    Wrote a.out.now a.at (tag_bytes a.tag ++ length_bytes a.size) (a.at + t.put_tag.result + c.put_length.result) c.put_length.new.out) =
-    (let t = c in wrote_then (tagged) (puts_wrote (room_after (tagged) t.requires.1) c.put_length.ensures)) in
-    both
+returns c = both c.requires.1 c.put_tag.ensures c.put_length.ensures

@@ -4,18 +4,10 @@ use Rattle.writer.proofs.Values.{said_size}
 use Rattle.writer.proofs.put_item.Goals as goal
 
 pub put_header-place-requires : goal.put_header-place-requires
-put_header-place-requires c =
-    let s = c in
-    (s.requires.0.tagged, header_room _ (said_size _ _ s.requires.0) s.requires.1)
+put_header-place-requires c = (c.requires.0.tagged, header_room _ (said_size _ _ c.requires.0) c.requires.1)
 
 pub put_value-requires : goal.put_value-requires
-put_value-requires c =
-    let h = c in
-    let s = h in
-    (s.requires.0, room_behind _ (said_size _ _ s.requires.0) s.requires.1 h.put_header-place.ensures)
+put_value-requires c = (c.requires.0, room_behind _ (said_size _ _ c.requires.0) c.requires.1 c.put_header-place.ensures)
 
 pub returns : goal.returns
-returns c =
-    let h = c in
-    let s = h in
-    wrote_behind _ (said_size _ _ s.requires.0) s.requires.1 h.put_header-place.ensures c.put_value.ensures
+returns c = wrote_behind _ (said_size _ _ c.requires.0) c.requires.1 c.put_header-place.ensures c.put_value.ensures

@@ -1,5 +1,5 @@
 -- `writer::put_packet` meets its contract.
-use mathlib.Core.Path.{sym}
+use mathlib.Core.Path.{sym, ◌∙◌}
 use native.Mathlib.Omega.{arith}
 use lib.Seq.{length-take-le}
 use Rattle.writer.proofs.Whole.{sizes, head_room, items_room, sum_room, packet_put}
@@ -36,4 +36,4 @@ returns c =
     let r = c.requires in
     let head = c.put_head-from.ensures in
     let items = c.put_rows.ensures in
-    packet_put _ r.whole r.part r.fits head items c.checksum-sum.ensures c.put_number.ensures
+    packet_put _ r.whole r.part r.fits head items (c.from-sum.ensures ∙ c.checksum.ensures) c.put_number.ensures

@@ -1,5 +1,4 @@
-use Prim.Native.Nat.{◌+◌, ◌-◌, ◌≤◌}
-use mathlib.Core.Path.{◌≡◌}
+use Prim.Native.Nat.{◌+◌, ◌-◌}
 use lib.ListN.{length}
 use Rattle.base.specs.Putting.{put_into}
 use Rattle.packet.specs.Rows.{rows_in}
@@ -8,9 +7,6 @@ use Rattle.writer.proofs.Rest.{Left}
 use Rattle.writer.proofs.put_rows.Given as goal
 
 abbrev pub invariant-loop-n : goal.invariant-loop-n
-invariant-loop-n l = (length l.out ≡ length l.initial.out) × (l.n ≤ l.count)
-    × Left l.buffer (rows_in l.n (l.count - l.n) l.words) l.out l.at
+invariant-loop-n l =
+    Left l.buffer (rows_in l.n (l.count - l.n) l.words) l.out l.at
     (l.from + length (table_bytes l.buffer l.count l.words)) (put_into l.initial.out l.from (table_bytes l.buffer l.count l.words))
-
-abbrev pub decreases-loop-n : goal.decreases-loop-n
-decreases-loop-n l = l.count - l.n

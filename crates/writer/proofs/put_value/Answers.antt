@@ -5,18 +5,10 @@ use Rattle.writer.proofs.Values.{number_said, part_said}
 use Rattle.writer.proofs.put_value.Goals as goal
 
 pub copy-requires : goal.copy-requires
-copy-requires c =
-    let s = c in
-    (s.requires.1, λ some. s.requires.0.inside c.if-row-lt-TEXT.false some)
+copy-requires c = (c.requires.1, c.requires.0.inside c.if-row-lt-TEXT.false)
 
 pub returns-then-row-lt-TEXT : goal.returns-then-row-lt-TEXT
-returns-then-row-lt-TEXT c =
-    let test = c in
-    let a = test.args in
-    wrote_as (sym (number_said a.buffer.now a.row test.if-row-lt-TEXT.true)) c.put_number.ensures
+returns-then-row-lt-TEXT c = wrote_as (sym (number_said c.args.buffer.now c.args.row c.if-row-lt-TEXT.true)) c.put_number.ensures
 
 pub returns-else-row-lt-TEXT : goal.returns-else-row-lt-TEXT
-returns-else-row-lt-TEXT c =
-    let test = c in
-    let a = test.args in
-    wrote_as (sym (part_said a.buffer.now a.row test.if-row-lt-TEXT.false)) c.copy.ensures
+returns-else-row-lt-TEXT c = wrote_as (sym (part_said c.args.buffer.now c.args.row c.if-row-lt-TEXT.false)) c.copy.ensures

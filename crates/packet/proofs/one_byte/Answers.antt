@@ -1,9 +1,0 @@
--- `packet::one_byte` meets its contract.
-use borrow.Author.Tests.{lt-ltb, le-ltb}
-use Rattle.packet.proofs.one_byte.Goals as goal
-
-pub returns-then-x-lt128 : goal.returns-then-x-lt128
-returns-then-x-lt128 c = rw (lt-ltb _ _ c.if-x-lt128.true)
-
-pub returns : goal.returns
-returns c = rw (le-ltb _ _ c.if-x-lt128.false)
