@@ -6,8 +6,8 @@ use native.Mathlib.Nat.{add-zero, zero-add}
 use native.Mathlib.Numerals.{add-one}
 use mathlib.Core.Path.{◌≡◌, refl, ap, sym, ◌∙◌}
 use mathlib.Core.List.{List, [], ◌∷◌, ◌++◌, append_assoc}
-use lib.ListN.{length, take, drop, set, length-append, length-drop, take-append-drop}
-use lib.Seq.{length-take-le, drop-drop, take_at, drop_at, set_split}
+use lib.ListN.{length, get_or, take, drop, set, length-append, length-drop, length-set, take-append-drop}
+use lib.Seq.{length-take-le, drop-drop, take_at, drop_at, take-suc, set_split}
 use borrow.Rule.Slice.PartMut.{mid_of, put_mid}
 use borrow.Author.Tests.{le-leb, lt-leb}
 use Rattle.base.specs.Putting.{put_into, put_count, Puts, Room, Wrote}
@@ -88,6 +88,35 @@ pub put_next : (o : List ℕ) (at : ℕ) (bs : List ℕ) (b : ℕ) → at + leng
     → set (put_into o at bs) (at + length bs) b ≡ put_into o at (bs ++ (b ∷ []))
 put_next o at bs b h =
     put_one (put_into o at bs) (at + length bs) b (rw (put_length o at bs (omega arith)) h) ∙ put_more o at bs (b ∷ []) (omega arith)
+
+-- the first bytes of a list copied one after another
+pub record Copying (o : List ℕ) (at : ℕ) (l : List ℕ) (size : ℕ) (out : List ℕ) (i : ℕ) : Type 0 where
+  pub few : i ≤ size
+  pub room : at + size ≤ length o
+  pub enough : size ≤ length l
+  pub kept : length out ≡ length o
+  pub copied : out ≡ put_into o at (take i l)
+
+module _ {o : List ℕ} {at : ℕ} {l : List ℕ} {size : ℕ} where
+  pub copy_start : at + size ≤ length o → size ≤ length l → Copying o at l size o 0
+  copy_start h k = record { few = omega arith; room = h; enough = k; kept = refl; copied = sym (put_nothing o at (omega arith)) }
+
+  module _ {out : List ℕ} {i : ℕ} (c : Copying o at l size out i) where
+    pub copy_next : (b : ℕ) → b ≡ get_or l i 0 → i < size → Copying o at l size (set out (at + i) b) (i + 1)
+    copy_next b e h =
+        let k : length (take i l) ≡ i = length-take-le i l (omega arith) in
+        let next : set (put_into o at (take i l)) (at + i) (get_or l i 0) ≡ put_into o at (take i l ++ (get_or l i 0 ∷ [])) =
+        rw k at (put_next o at (take i l) (get_or l i 0) (rw k (omega arith))) in
+        record {
+          few = omega arith;
+          room = c.room;
+          enough = c.enough;
+          kept = length-set out (at + i) b ∙ c.kept;
+          copied = rw (c.copied, e, add-one, take-suc l i 0 (omega arith)) next;
+        }
+
+    pub copy_done : size ≤ i → out ≡ put_into o at (take size l)
+    copy_done h = let e : i ≡ size = omega arith in rw e at c.copied
 
 -- at the front
 pub put_front : (o bs : List ℕ) → length bs ≤ length o → put_into o 0 bs ≡ bs ++ drop (length bs) o

@@ -2,8 +2,9 @@
 -- Assumes nothing.
 use Prim.Native.Nat.{ℕ, ◌+◌, ◌/◌, ◌%◌, ◌<◌, ◌≤◌}
 use native.Mathlib.Omega.{arith}
-use mathlib.Core.Path.{◌≡◌, refl, ap, sym, ◌∙◌}
+use mathlib.Core.Path.{◌≡◌, refl, ap, sym, ◌∙◌, subst}
 use mathlib.Core.Bool.{Bool, true, false, not, ◌&&◌, ◌||◌, or-true, beq}
+use mathlib.Core.List.{List}
 use lib.Bits.{bit_and, and_mask}
 use lib.Dec.{ltb, leb, eqb}
 use lib.ListN.{get_or}
@@ -15,9 +16,12 @@ use Rattle.catalogue.specs.Items.{groups, member, item_in, item_of}
 use Rattle.catalogue.specs.Extended.{is_extended, in_reach}
 use Rattle.catalogue.specs.Shapes.{shape_by, shape_of, shape_allows, is_listed, is_needed, size_allowed, codes_limited, code_allowed}
 use Rattle.catalogue.specs.code.Column.{column_from, shape_column, mask_column, shape_mask, shape_byte, length_mask, within, mask_byte, shape_from, shape_in}
+use Rattle.catalogue.specs.declared.MaskColumn.{MaskColumn}
 use Rattle.catalogue.specs.declared.Shape.{Shape}
 use Rattle.catalogue.specs.declared.Shape.TheVariants.{Text, Number, Absent}
+use Rattle.catalogue.specs.declared.ShapeColumn.{ShapeColumn}
 use Rattle.catalogue.proofs.Laws.{item_beyond}
+use Rattle.std.specs.Coded.{Coded-set, coded_list, coded_ℕ}
 
 pub shape_beyond : (t : ℕ) → 128 ≤ t → shape_of t ≡ Absent
 unfolding shape_of
@@ -316,3 +320,16 @@ shape_in_column t =
     (λ x. by_lt t 128
     (λ h. rw (x, lt-leb 128 t h, byte_in_column t h) (byte_said (shape_of t) (shape_wide t h) (shape_fixed t h x)))
     (λ h. rw (x, le-leb 128 t h) (sym (shape_beyond t h))))
+
+-- what keeps bytes, and that they are the catalogue's, is told by its bytes alone
+by_bytes : {A : Type 0} (all : List ℕ) (keeps : (x : List ℕ) → x ≡ all → A) (x y : List ℕ) (p : x ≡ all) (q : y ≡ all) → x ≡ y → keeps x p ≡ keeps y q
+by_bytes all keeps x y p q e =
+    subst (λ z. (r : z ≡ all) → keeps x p ≡ keeps z r) e (λ r. ap (keeps x) (Coded-set (coded_list coded_ℕ) x all p r)) q
+
+pub shapes_apart : (a b : ShapeColumn) → a.column ≡ b.column → a ≡ b
+shapes_apart a b e =
+    by_bytes shape_column (λ x p. record { column = x; of_the_catalogue = p }) a.column b.column a.of_the_catalogue b.of_the_catalogue e
+
+pub masks_apart : (a b : MaskColumn) → a.column ≡ b.column → a ≡ b
+masks_apart a b e =
+    by_bytes mask_column (λ x p. record { column = x; of_the_catalogue = p }) a.column b.column a.of_the_catalogue b.of_the_catalogue e

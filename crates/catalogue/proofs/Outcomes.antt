@@ -1,9 +1,8 @@
 -- Each public function's contract determines its answer.
 -- Assumes nothing.
 use mathlib.Core.Path.{sym, ◌∙◌}
-use mathlib.Core.List.{List}
-use Prim.Native.Nat.{ℕ}
-use Rattle.base.specs.Determined.{Answered, Read}
+use Rattle.base.specs.Determined.{Answered}
+use Rattle.catalogue.proofs.Columns.{shapes_apart, masks_apart}
 use Rattle.catalogue.proofs.all_tags.Kinds as all-tags-kinds
 use Rattle.catalogue.proofs.all_tags.Reads as all-tags-reads
 use Rattle.catalogue.proofs.ShapeColumn.of.Kinds as of-kinds
@@ -34,14 +33,14 @@ use Rattle.catalogue.proofs.allows_code.Reads as allows-code-reads
 pub all_tags_determined : Answered 0 all-tags-kinds.ps all-tags-kinds.r all-tags-reads.Post
 all_tags_determined κs a z z' e e' p q = p ∙ sym q
 
-pub shapes_determined : Read 0 shapes-kinds.ps shapes-kinds.r shapes-reads.Post (List ℕ) (λ κs z. z.column)
-shapes_determined κs a z z' e e' p q = p ∙ sym q
+pub shapes_determined : Answered 0 shapes-kinds.ps shapes-kinds.r shapes-reads.Post
+shapes_determined κs a z z' e e' p q = shapes_apart z z' (p ∙ sym q)
 
 pub of_determined : Answered 1 of-kinds.ps of-kinds.r of-reads.Post
 of_determined κs a z z' e e' p q = p ∙ sym q
 
-pub length_masks_determined : Read 0 length-masks-kinds.ps length-masks-kinds.r length-masks-reads.Post (List ℕ) (λ κs z. z.column)
-length_masks_determined κs a z z' e e' p q = p ∙ sym q
+pub length_masks_determined : Answered 0 length-masks-kinds.ps length-masks-kinds.r length-masks-reads.Post
+length_masks_determined κs a z z' e e' p q = masks_apart z z' (p ∙ sym q)
 
 pub shape_at_determined : Answered 1 shape-at-kinds.ps shape-at-kinds.r shape-at-reads.Post
 shape_at_determined κs a z z' e e' p q = p ∙ sym q

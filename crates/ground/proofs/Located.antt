@@ -53,7 +53,7 @@ use Rattle.ground.specs.declared.Value.{Value}
 use Rattle.ground.specs.declared.Value.TheVariants.{Absent}
 use Rattle.ground.specs.code.Located.{Placed, rows_held, place_found, item_with, Like}
 use Rattle.ground.proofs.Present.{shape_is}
-use Rattle.std.specs.Prelude.{Some, None}
+use Rattle.std.specs.Prelude.{Option, Some, None}
 
 -- a tag that is not known has carried rows alone
 unknown : (K : ℕ → Bool) (t : ℕ) → K t ≡ false → (is : List pieces.Item) → value_for t (rows_of K is) ≡ Absent
@@ -226,17 +226,26 @@ module _ {t u width : ℕ} (k : Like t u width) where
       (λ b. rw (scaled_plain its_scale, scaled_plain other_scale, k.one, k.other, k.scale, b))
 
 -- what a function that finds a tag has of an accepted packet
-pub record Stands (p : List ℕ) (u width end : ℕ) (x : Value) : Type 0 where
+pub record StandsAt (p : List ℕ) (u width end : ℕ) (x : Value) : Type 0 where
   pub inside : end ≤ length p
   pub wide : width ≤ end
   pub there : (code : ℕ) → code ≡ value_of (take (end - (end - width)) (drop (end - width) p)) % 2 ^ 64 → in_house (to_house u width code) ≡ x
 
--- and of an extended height, by the byte before its value
-pub record HeightStands (p : List ℕ) (t place : ℕ) (x : Value) : Type 0 where
+-- and what one has that looks for it: where it is found nowhere, the rows say nothing of it
+pub record Stands (p : List ℕ) (u width : ℕ) (found : Option ℕ) (x : Value) : Type 0 where
+  pub none : None ≡ found → Absent ≡ x
+  pub at : (end : ℕ) → Some end ≡ found → StandsAt p u width end x
+
+-- of an extended height the same, by the byte before its value
+pub record HeightStandsAt (p : List ℕ) (t place : ℕ) (x : Value) : Type 0 where
   pub before : place - 1 < length p
   pub inside : place + get_or p (place - 1) 0 ≤ length p
   pub there : (code : ℕ) → code ≡ value_of (take (get_or p (place - 1) 0) (drop place p)) % 2 ^ 64
       → in_house (to_house t (get_or p (place - 1) 0) code) ≡ x
+
+pub record HeightStands (p : List ℕ) (t : ℕ) (found : Option ℕ) (x : Value) : Type 0 where
+  pub none : None ≡ found → Absent ≡ x
+  pub at : (place : ℕ) → Some place ≡ found → HeightStandsAt p t place x
 
 -- what it is to be found
 record Finding (K : TagSet) (places : List ℕ) (t place : ℕ) : Type 0 where
@@ -318,8 +327,8 @@ module _ (K : TagSet) (p places : List ℕ) (placed : Placed K p places) (t : �
     like_says : holds K t ≡ true → InHouse K t
     like_says e = scaled_says K p t (item_with t k.group) e (its_scale k)
 
-    pub stands : (end : ℕ) → Some end ≡ place_found K places t → Stands p u width end (value_for t (rows_held K p))
-    stands end f =
+    stands_at : (end : ℕ) → Some end ≡ place_found K places t → StandsAt p u width end (value_for t (rows_held K p))
+    stands_at end f =
         let q = finding K places t end f in
         let s = its_scale k in
         let g : ℕ = k.group.width in
@@ -340,8 +349,8 @@ module _ (K : TagSet) (p places : List ℕ) (placed : Placed K p places) (t : �
               ap (λ x. in_house (to_house u g x)) e ∙ (same-house k g y.header.size (value_of v) ∙ sym y.value);
         })
 
-    pub stands_not : None ≡ place_found K places t → Absent ≡ value_for t (rows_held K p)
-    stands_not = nowhere (omega (arith, tag_some)) like_says
+    pub stands : Stands p u width (place_found K places t) (value_for t (rows_held K p))
+    stands = record { none = nowhere (omega (arith, tag_some)) like_says; at = stands_at }
 
   -- of an extended height
   module _ (x : is_extended t ≡ true) where
@@ -357,8 +366,8 @@ module _ (K : TagSet) (p places : List ℕ) (placed : Placed K p places) (t : �
     unfolding right_length
     height_few n bytes h = leb-true n 4 (both_right (leb 2 n) _ (rw (extended_shape t x) at (right_some t n (shape_of t) h bytes)))
 
-    pub height_stands : (place : ℕ) → Some place ≡ place_found K places t → HeightStands p t place (value_for t (rows_held K p))
-    height_stands place f =
+    height_stands_at : (place : ℕ) → Some place ≡ place_found K places t → HeightStandsAt p t place (value_for t (rows_held K p))
+    height_stands_at place f =
         let q = finding K places t place f in
         let same : place ≡ get_or (places_from no_places a.items) t 0 = q.at ∙ placed_at in
         let y = (known_told q.known height_some (height_says q.known)).there (omega (arith, q.some, same)) in
@@ -377,8 +386,8 @@ module _ (K : TagSet) (p places : List ℕ) (placed : Placed K p places) (t : �
               rw (size, e) (sym y.value);
         })
 
-    pub height_stands_not : None ≡ place_found K places t → Absent ≡ value_for t (rows_held K p)
-    height_stands_not = nowhere height_some height_says
+    pub height_stands : HeightStands p t (place_found K places t) (value_for t (rows_held K p))
+    height_stands = record { none = nowhere height_some height_says; at = height_stands_at }
 
 -- the answer of a packet that was looked through
 pub placed_so : (K : TagSet) (p : List ℕ) (l : Located) → Words K → Bytes p → located K p ≡ given l → Placed K p l.places

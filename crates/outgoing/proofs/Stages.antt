@@ -205,6 +205,10 @@ module _ (K : TagSet) (w : Words K) (b : List ℕ) where
           (λ a. rw a (sized_all (all_good (holds K) b 0 (rows_in 0 count words) e)))
           (λ a. rw a))
 
+      pub rows_bad : (n p t : ℕ) → right_rows (holds K) (length b) 0 (rows_in 0 count words) ≡ refused n p t
+          → map packed_of (outgoing_with K h count words b) ≡ refused n p t
+      rows_bad n p t e = rw (right, few, e)
+
 -- 16 and 1
 module _ (K : TagSet) (h : Option TagSet) (count : ℕ) (words b : List ℕ) where
   pub too_many : good K ≡ true → count_good count (length words) ≡ false → map packed_of (outgoing_with K h count words b) ≡ refused 16 0 0

@@ -667,6 +667,28 @@ fn stopped(packet: &[u8], here: usize, count: usize) -> Refusal
     }
 }
 
+// The walk at a glance over all items. By itself, so that the masks have left the frame when the exact walk makes the shapes.
+fn passed_from(
+    packet: &[u8],
+    from: usize,
+    known: TagSet,
+    places: &mut [u16; 128],
+    noted: &mut Noted,
+) -> Passed
+    requires { Begins known packet.now from places.old }
+    ensures { Passes known packet.now
+        (fresh_at from places.old (set_of noted.old.present) (set_of noted.old.withdrawn)) (kept_in result places.new noted.new) }
+{
+    let masks = catalogue::length_masks();
+    let words = [known.low, known.high];
+    let walk = Walk {
+        packet,
+        masks: &masks,
+        known: &words,
+    };
+    walk.pass(from, places, noted)
+}
+
 // The items, once it is known where they begin; in a column of nothing, for each tag where its value is found.
 fn check_from(
     packet: &[u8],
@@ -677,18 +699,11 @@ fn check_from(
     requires { Begins known packet.now from places.old }
     ensures { ChecksFrom known packet.now from result places.new }
 {
-    let masks = catalogue::length_masks();
-    let words = [known.low, known.high];
-    let walk = Walk {
-        packet,
-        masks: &masks,
-        known: &words,
-    };
     let mut noted = Noted {
         present: [0; 2],
         withdrawn: [0; 2],
     };
-    let passed = walk.pass(from, places, &mut noted);
+    let passed = passed_from(packet, from, known, places, &mut noted);
     if passed.here < packet.len() {
         return Err(stopped(packet, passed.here, passed.count));
     }
@@ -712,7 +727,9 @@ fn begun(packet: &[u8], known: TagSet) -> Result<usize, Refusal>
     refused(Reason::SetNotGood, 0, 0)
 }
 
-// Whether a receiver accepts a packet: document 01's refusals in their order, but for 2.
+// Whether a receiver accepts a packet: document 01's refusals in their order, but for 2. Inlined always: a call would be one more frame below those
+// of its callers.
+#[inline(always)]
 pub fn check(packet: &[u8], known: TagSet) -> Result<Accepted, Refusal>
     ensures { answer_said result ≡ checked known packet.now }
 {
@@ -729,14 +746,16 @@ pub struct Located {
     pub places: [u16; 128],
 }
 
-// The same, with the places at which the values are found. Inlined always: a call would copy the places into its caller's frame.
+// The same, with the places at which the values are found. Inlined always: a call would copy the places into its caller's frame. A match in place of
+// `?`, so that an edit can hand places out after a refusal.
 #[inline(always)]
 pub fn locate(packet: &[u8], known: TagSet) -> Result<Located, Refusal>
     ensures { answer_said result ≡ located known packet.now }
 {
     let from = begun(packet, known)?;
     let mut places = [0u16; 128];
-    let found = check_from(packet, from, known, &mut places);
-    let accepted = found?;
-    Ok(Located { accepted, places })
+    match check_from(packet, from, known, &mut places) {
+        Ok(accepted) => Ok(Located { accepted, places }),
+        Err(refusal) => Err(refusal),
+    }
 }

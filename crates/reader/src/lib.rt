@@ -157,7 +157,8 @@ pub fn read(packet: &[u8], known: TagSet, table: &mut [u64]) -> Result<Filled, R
     if short {
         return refused(Reason::TableTooShort, 0, 0);
     }
-    let accepted = packet::check(packet, known)?;
+    let checked = packet::check(packet, known);
+    let accepted = checked?;
     let count = accepted.count;
     fill(packet, accepted.from, count, known, table);
     Ok(Filled {

@@ -6,9 +6,7 @@ use mathlib.Core.List.{List, [], ◌∷◌}
 use lib.ListN.{get_or}
 use Rattle.refusal.specs.Numbers.{number}
 use Rattle.std.specs.Prelude.{Result, Ok, Err}
-use Rattle.base.proofs.Cases.{never}
-use Rattle.refusal.specs.Answer.{Answer, refusal, answer_said}
-use Rattle.refusal.proofs.Answers.{given_same}
+use Rattle.refusal.specs.Answer.{Answer, given, refused, refusal, answer_said}
 use Rattle.refusal.specs.declared.Refusal.{Refusal}
 use Rattle.refusal.specs.declared.Reason.{Reason}
 use Rattle.refusal.specs.declared.Reason.TheVariants.{SetNotGood, TableTooShort, PacketTooLong, KeyDiffers, OuterLengthWrong, TooManyItems, TagBroken}
@@ -62,9 +60,23 @@ refusal_apart a b e =
     let t : a.tag ≡ b.tag = cc in
     λ i. record { reason = r i; place = p i; tag = t i }
 
+-- an answer made of what it says, and that no two answers say the same where each is made so
+module _ {A W : Type 0} (make : A → W) (refuse : Refusal → W) where
+  abbrev pub made : Answer A → W
+  made (given a) = make a
+  made (refused n p t) = refuse (record { reason = numbered n; place = p; tag = t })
+
+  pub refuse_made : (r : Refusal) → made (refusal r) ≡ refuse r
+  refuse_made r = ap (λ n. refuse (record { reason = n; place = r.place; tag = r.tag })) (number_back r.reason)
+
+  pub told_apart : (said : W → Answer A) → ((w : W) → made (said w) ≡ w) → (a b : W) → said a ≡ said b → a ≡ b
+  told_apart said back a b e = sym (back a) ∙ (ap made e ∙ back b)
+
 -- what a function's result says tells any two results apart
-pub answer_apart : {A : Type 0} (a b : Result A Refusal) → answer_said a ≡ answer_said b → a ≡ b
-answer_apart (Ok x) (Ok y) e = ap Ok (given_same e)
-answer_apart (Ok x) (Err s) e = never (cc)
-answer_apart (Err r) (Ok y) e = never (cc)
-answer_apart (Err r) (Err s) e = ap Err (refusal_apart r s e)
+module _ {A : Type 0} where
+  result_made : (r : Result A Refusal) → made Ok Err (answer_said r) ≡ r
+  result_made (Ok x) = refl
+  result_made (Err r) = refuse_made Ok Err r
+
+  pub answer_apart : (a b : Result A Refusal) → answer_said a ≡ answer_said b → a ≡ b
+  answer_apart = told_apart Ok Err answer_said result_made

@@ -73,7 +73,3 @@ module _ {o : List ℕ} {at : ℕ} {high : List ℕ} (low : List ℕ) {text : Li
 
     pub both_wrote : {n : ℕ} {o₂ : List ℕ} → Wrote o₁ m low n o₂ → Wrote o at text n o₂
     both_wrote v = wrote_as e (wrote_then w v)
-
--- a part of the list is lent, and bs are put there
-pub part_puts : {o : List ℕ} {at n : ℕ} {bs part : List ℕ} → length bs ≡ n → at + n ≤ length o → part ≡ bs → Puts o at bs n (put_mid at (at + n - at) o part)
-part_puts {o} {at} {n} {bs} l h e = all_put o at n bs l h _ (rw e (part_put o at n h bs l))

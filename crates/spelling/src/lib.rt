@@ -164,6 +164,9 @@ pub fn put_text(out: &mut [u8], at: usize, text: &[u8]) -> usize
     if !has_room(out.len(), at, size) {
         return 0;
     }
-    out[at..at + size].copy_from_slice(text);
+    // byte by byte: a copy of the library's would ask memmove of C
+    for i in 0..size {
+        out[at + i] = text[i];
+    }
     size
 }

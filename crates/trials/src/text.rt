@@ -18,10 +18,13 @@ pub fn sized(to: &mut Stdout, what: &str, answer: Result<usize, Refusal>) -> io:
     }
 }
 
-// The line of a packet's bytes, or of a value's.
+// The line of a packet's bytes, or of a value's. Each byte is one write: by `{byte:02X}` one with a zero in front was two, and a line of such bytes
+// took twice as long.
 pub fn hexadecimal(to: &mut Stdout, bytes: &[u8]) -> io::Result<()> {
     for byte in bytes {
-        write!(to, "{byte:02X}")?;
+        let mut digits = [0; 2];
+        spelling::put_hex(&mut digits, 0, &[*byte]);
+        to.write_all(&digits)?;
     }
     writeln!(to)
 }

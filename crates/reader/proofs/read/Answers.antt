@@ -1,5 +1,6 @@
 -- `reader::read` meets its contract.
-use mathlib.Core.Path.{sym, ◌∙◌}
+use mathlib.Core.Path.{sym, ap, ◌∙◌}
+use Rattle.refusal.specs.Answer.{answer_said}
 use Rattle.number.proofs.Laws.{bytes_lent}
 use Rattle.refusal.proofs.Answers.{handed_on}
 use Rattle.reader.proofs.Filling.{few}
@@ -14,15 +15,15 @@ returns-then-short c = short_table (sym c.is_good.ensures ∙ c.if-not-is_good.f
 
 pub returns-in_err-accepted : goal.returns-in_err-accepted
 returns-in_err-accepted c =
-    refused_packet _ _ _ (sym c.is_good.ensures ∙ c.if-not-is_good.false) c.if-short.false (sym c.in_err-accepted.ensures)
+    refused_packet _ _ _ (sym c.is_good.ensures ∙ c.if-not-is_good.false) c.if-short.false (sym c.check-checked.ensures ∙ ap answer_said c.in_err-accepted.was)
     (handed_on _ _ c.from_residual.ensures.1 (λ s q. q))
 
 pub fill-requires : goal.fill-requires
 fill-requires c =
     let by = bytes_lent c.type_inv.packet in
-    let accepts = may_fill (sym c.in_ok-accepted.ensures) by in
+    let accepts = may_fill (sym c.check-checked.ensures ∙ ap answer_said c.in_ok-accepted.was) by in
     (accepts, few by accepts, c.if-short.false)
 
 pub returns : goal.returns
 returns c =
-    table_read _ _ _ (sym c.is_good.ensures ∙ c.if-not-is_good.false) c.if-short.false (sym c.in_ok-accepted.ensures) c.fill.ensures
+    table_read _ _ _ (sym c.is_good.ensures ∙ c.if-not-is_good.false) c.if-short.false (sym c.check-checked.ensures ∙ ap answer_said c.in_ok-accepted.was) c.fill.ensures

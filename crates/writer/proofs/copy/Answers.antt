@@ -1,30 +1,35 @@
 -- `writer::copy` meets its contract.
-use Prim.Native.Nat.{ℕ, ◌+◌, ◌-◌, ◌≤◌}
+use mathlib.Core.Path.{sym}
 use native.Mathlib.Omega.{arith}
-use mathlib.Core.Path.{◌≡◌, refl, sym, ◌∙◌}
+use Prim.Native.Nat.{ℕ, ◌+◌, ◌<◌, ◌≤◌}
 use mathlib.Core.List.{List}
-use lib.ListN.{length, take, drop, length-drop}
-use lib.Seq.{length-take-le}
-use borrow.Rule.Slice.PartMut.{put_mid}
-use Rattle.base.specs.Putting.{Wrote}
-use Rattle.base.proofs.Parts.{part_lent}
-use Rattle.base.proofs.Putting.{part_put, put_nothing, all_wrote}
+use lib.ListN.{length, drop, length-drop}
+use lib.Seq.{get_or-drop, length-take-le}
+use Rattle.base.proofs.Cases.{by_eq}
+use Rattle.base.proofs.Putting.{copy_start, copy_next, copy_done, all_wrote}
 use Rattle.writer.proofs.copy.Goals as goal
 
-some_copied : (o : List ℕ) (at size : ℕ) (b : List ℕ) (place : ℕ) {bs : List ℕ} → at + size ≤ length o → place + size ≤ length b
-    → bs ≡ take (place + size - place) (drop place b) → Wrote o at (take size (drop place b)) (at + size) (put_mid at (at + size - at) o bs)
-some_copied o at size b place h k e =
-    let long : length (take size (drop place b)) ≡ size = length-take-le size (drop place b) (rw length-drop (omega arith)) in
-    rw (e ∙ part_lent b place size) (all_wrote o at size _ long h _ (part_put o at size h _ long))
+within : (b : List ℕ) (place size : ℕ) → (0 < size → place + size ≤ length b) → size ≤ length (drop place b)
+within b place size inside = rw length-drop (by_eq size 0 (λ z. omega arith) (λ some. omega (arith, inside (omega arith))))
 
-none_copied : (o : List ℕ) (at size : ℕ) (l : List ℕ) → at + size ≤ length o → size ≤ 0 → Wrote o at (take size l) (at + size) o
-none_copied o at size l h z =
-    let none : size ≡ 0 = omega arith in
-    rw none (all_wrote o at 0 (take 0 l) refl (omega arith) o (sym (put_nothing o at (omega arith))))
+pub loop-i-init : goal.loop-i-init
+loop-i-init c = copy_start c.requires.0 (within c.args.buffer.now c.args.place c.args.size c.requires.1)
 
-pub returns-then-size-gt0 : goal.returns-then-size-gt0
-returns-then-size-gt0 c =
-    some_copied _ _ _ _ _ c.requires.0 (c.requires.1 c.if-size-gt0.true) c.copy_from_slice.ensures.after
+pub bounds-buffer-place : goal.bounds-buffer-place
+bounds-buffer-place c =
+    let more = c.loop-i-test.true in
+    omega (arith, c.requires.1 (omega arith), more)
 
-pub returns-else-size-gt0 : goal.returns-else-size-gt0
-returns-else-size-gt0 c = none_copied _ _ _ _ c.requires.0 c.if-size-gt0.false
+pub bounds-out-at : goal.bounds-out-at
+bounds-out-at c = omega (arith, c.loop-i.invariant.kept, c.requires.0, c.loop-i-test.true)
+
+pub loop-i-preserved : goal.loop-i-preserved
+loop-i-preserved c =
+    let l = c.loop-i in
+    let a = c.args in
+    copy_next l.invariant _ (sym (get_or-drop a.place a.buffer.now l.i 0)) c.loop-i-test.true
+
+pub returns : goal.returns
+returns c =
+    let all = c.loop-i.invariant in
+    all_wrote _ _ _ _ (length-take-le _ _ all.enough) all.room _ (copy_done all c.loop-i-test.false)
